@@ -1,0 +1,4 @@
+pub mod Causes
+pub mod Text
+pub mod Blocks
+pub mod Laws

@@ -1,0 +1,4 @@
+pub mod Lookup
+pub mod Spelling
+pub mod Counting
+pub mod Reading

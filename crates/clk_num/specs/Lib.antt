@@ -1,0 +1,4 @@
+pub mod Listed
+pub mod Clamp
+pub mod Biased
+pub mod Range

@@ -1,0 +1,9 @@
+pub mod EventSteps
+pub mod LawfulRun
+pub mod Made
+pub mod Near
+pub mod ReadingWhole
+pub mod RunHistory
+pub mod RunReadings
+pub mod RunSeen
+pub mod RunTickets

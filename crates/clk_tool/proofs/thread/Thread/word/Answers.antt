@@ -1,0 +1,15 @@
+use Rattle.std.proofs.Common.{ap}
+use Rattle.clk_tool.proofs.Made.{word_local, word_tick, word_pause_cast}
+use Rattle.clk_tool.proofs.thread.Thread.word.Goals as goal
+
+pub returns-in-Local : goal.returns-in-Local
+returns-in-Local c = rw c.in-Local.is (word_local _ _ _ _ c.local.ensures.made c.local.ensures.drawn)
+
+pub returns-in-Tick : goal.returns-in-Tick
+returns-in-Tick c =
+    rw c.in-Tick.is (word_tick _ _ _ _ _ c.stamp.ensures.made c.stamp.ensures.drawn (ap (λ h. h.room) c.stamp.ensures.kept) c.local-in-Tick.ensures.made c.local-in-Tick.ensures.drawn)
+
+pub returns-in-Pause : goal.returns-in-Pause
+returns-in-Pause c =
+    let range = rw c.in-Pause.is at c.requires.range in
+    rw c.in-Pause.is (word_pause_cast _ _ _ _ _ range c.pause.ensures.made c.pause.ensures.drawn)

@@ -1,0 +1,9 @@
+pub mod Answers
+pub mod Booting
+pub mod Commands
+pub mod Ends
+pub mod Making
+pub mod Failures
+pub mod Room
+pub mod Running
+pub mod Whole

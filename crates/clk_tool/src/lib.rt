@@ -1,0 +1,41 @@
+//! The clock as a program: from the bytes of a machine file to the bytes of its trace.
+//!
+//! [`clock_tool`] is the top call. With the word `run` it reads a source to its end, runs the machine that the bytes
+//! describe, and writes the trace into a sink. On `Done` what was written is the text of a lawful trace of that machine;
+//! every other answer but want of memory has its cause as a clause of the call.
+//!
+//! - [`Source`] and `Sink` count their faults, and a call of theirs fails only where the count rose. In memory
+//!   ([`MemSource`], [`MemSink`], [`SureSource`], [`SureSink`]) they tell their bytes; over std ([`StdSource`],
+//!   [`StdSink`]) what a file or a terminal holds is known to no contract.
+//! - The runner makes the boot and the script of the one CPU on the calling thread, as Linux 6.1's
+//!   `kernel/sched/clock.c` does with a per-CPU clock: stamps at ticks, readings that never fall and never pass the end
+//!   of their tick.
+//!
+//! No call waits, and all return.
+#![tactic(auto)]
+
+mod boot;
+mod clock;
+mod command;
+#[cfg(test)]
+mod end_tests;
+mod failures;
+mod memory;
+#[cfg(test)]
+mod row_tests;
+mod run;
+mod source;
+mod standard;
+mod status;
+mod sure;
+mod thread;
+mod tool;
+mod whole;
+
+pub use memory::{MemSink, MemSource};
+pub use source::Source;
+pub use standard::{StdSink, StdSource};
+pub use status::{Refusal, Status};
+pub use sure::{SureSink, SureSource};
+pub use tool::clock_tool;
+pub use whole::LIMIT;

@@ -1,0 +1,100 @@
+ghost use Rattle.std.specs.Prelude.{◌≡◌, ◌*◌, ◌≤◌, [], length, IfOk};
+ghost use Rattle.clk_trace.specs.LawfulTrace.{IsLawful};
+ghost use Rattle.clk_tool.specs.Booting.{IsBooted, IsRunOf};
+ghost use Rattle.clk_tool.specs.Making.{HasMade};
+ghost use Rattle.clk_tool.specs.Room.{HasRoom};
+
+use crate::boot::{Boot, boot_machine};
+use crate::thread::Thread;
+use clk_machine::{Gate, Machine};
+use clk_num::List;
+use clk_trace::{Event, HistoryStep, Mode, StableStamp, Trace};
+use std::alloc::{AllocError, Global};
+
+/// All memory of a run, taken before it begins.
+#[derive(Drop)]
+pub struct Lists {
+    pub boots: List<StableStamp>,
+    pub cpu_of: List<u32>,
+    pub threads: List<List<Event>>,
+    pub histories: List<List<HistoryStep>>,
+    pub events: List<Event>,
+    pub history: List<HistoryStep>,
+}
+
+impl Lists {
+    /// Room for a script of so many words: each makes at most two events and one step.
+    fn with_room(alloc: Global, words: usize) -> Result<Lists, AllocError>
+        requires { words ≤ 65536 }
+        ensures { IfOk result (HasRoom words) }
+    {
+        Ok(Lists {
+            boots: List::with_room(alloc, 1)?,
+            cpu_of: List::with_room(alloc, 1)?,
+            threads: List::with_room(alloc, 1)?,
+            histories: List::with_room(alloc, 1)?,
+            events: List::with_room(alloc, 2 * words)?,
+            history: List::with_room(alloc, words)?,
+        })
+    }
+}
+
+/// Runs the script of a machine on this thread, from the boot on, and answers the trace, which is lawful. The error is
+/// want of memory, and comes before the first word passes the gate.
+pub fn run_machine<G: Gate>(alloc: Global, machine: &Machine, gate: &G) -> Result<Trace, AllocError>
+    ensures { IfOk result (IsLawful machine.now) }
+{
+    let lists = Lists::with_room(alloc, machine.words(0) as usize)?;
+    Ok(run_in(machine, lists, gate))
+}
+
+/// The same within lists that have the room.
+fn run_in<G: Gate>(machine: &Machine, lists: Lists, gate: &G) -> Trace
+    requires { HasRoom (length machine.now.words) lists }
+    ensures { IsLawful machine.now result }
+{
+    let Lists {
+        mut boots,
+        mut cpu_of,
+        mut threads,
+        mut histories,
+        events,
+        history,
+    } = lists;
+    let Boot {
+        epoch_cyc,
+        stamp,
+        clock,
+    } = boot_machine(machine);
+    let start_word = clock.word;
+    let mut thread = Thread {
+        clock,
+        events,
+        history,
+        last: 0,
+    };
+    thread.run(machine, gate);
+    let Thread {
+        clock: after,
+        events,
+        history,
+        last: _,
+    } = thread;
+    boots.push(stamp);
+    cpu_of.push(0);
+    threads.push(events);
+    histories.push(history);
+    Trace {
+        epoch_ticket: 0,
+        epoch_cyc,
+        boots,
+        starts: Mode::PerCpu,
+        sched_offset: 0,
+        gtod_offset: stamp.offset,
+        start_word,
+        cpu_of,
+        threads,
+        histories,
+        tickets: after.next,
+    }
+}

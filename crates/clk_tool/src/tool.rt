@@ -1,0 +1,100 @@
+ghost use Rattle.std.specs.Prelude.{◌≡◌, ◌≢◌, ◌↔◌, ◌⊎◌, ◌≤◌, None, IsSome, IfOk, IfErr, map, string_bytes};
+ghost use Rattle.clk_base.specs.Causes.{Rose, Grew, GrewByPrefix};
+ghost use Rattle.clk_tool.specs.Whole.{CameMore};
+ghost use Rattle.clk_tool.specs.Commands.{command_of};
+ghost use Rattle.clk_tool.specs.Answers.{Ran, CameMachine, Traced, CameNoToml, CameUnbuilt, HoldsMachine, NamesNoPlace, IsSilent, IsOfFile, IsOfRun};
+
+use crate::command::{Command, command_in};
+use crate::run::run_machine;
+use crate::source::Source;
+use crate::status::{Refusal, Status};
+use crate::whole::{LIMIT, ReadRefusal, read_whole};
+use clk_file::{FileError, read_machine};
+use clk_machine::{Gate, Machine};
+use clk_trace::{Sink, WriteFault, write_trace};
+use std::alloc::Global;
+
+/// The program, over any source, sink and gate. `words` are those of the command line, without the program's name.
+///
+/// With `run` it reads the source to its end, runs the machine that the bytes describe, and writes its trace into the
+/// sink. Each script word passes the gate before it is made. It waits on nothing, and returns.
+pub fn clock_tool<R, S: Source, K: Sink, G: Gate>(
+    _rt: &R,
+    alloc: Global,
+    words: &[String],
+    source: &mut S,
+    sink: &mut K,
+    gate: &G,
+) -> Status
+    // On `Done` the source was read to its end, and the text of a lawful trace of the machine that its bytes describe
+    // was written, whole.
+    ensures done { result ≡ Status.Done → Ran LIMIT (S.rest source.old) (S.rest source.new) (Grew (K.written sink.old) (K.written sink.new)) }
+
+    // The causes of the other answers.
+    ensures usage { (result ≡ Status.Usage) ↔ (command_of (map (λ w. string_bytes w) words.now) ≡ None) }
+    ensures read_fault { result ≡ Status.ReadFault → Rose (S.faults source.old) (S.faults source.new) }
+    ensures too_long { result ≡ Status.Refused Refusal.TooLong → CameMore LIMIT (S.rest source.old) (S.rest source.new) }
+    ensures not_toml { result ≡ Status.Refused Refusal.NotToml → CameNoToml LIMIT (S.rest source.old) (S.rest source.new) }
+    ensures unbuilt { result ≡ Status.Refused Refusal.Unbuilt → CameUnbuilt LIMIT (S.rest source.old) (S.rest source.new) }
+    ensures no_place { NamesNoPlace result }
+    ensures write_fault { result ≡ Status.WriteFault → Rose (K.faults sink.old) (K.faults sink.new) }
+    ensures cut { result ≡ Status.WriteFault → Ran LIMIT (S.rest source.old) (S.rest source.new) (GrewByPrefix (K.written sink.old) (K.written sink.new)) }
+
+    // What stays the same.
+    ensures silent { IsSilent result → sink.new ≡ sink.old }
+    ensures untouched { result ≡ Status.Usage → source.new ≡ source.old }
+    ensures counts { (S.faults source.old ≤ S.faults source.new) × (K.faults sink.old ≤ K.faults sink.new) }
+
+    // Where the source holds a machine and neither end failed, only want of memory is left.
+    ensures complete { IsSome (command_of (map (λ w. string_bytes w) words.now)) → HoldsMachine LIMIT (S.rest source.old) → ¬ Rose (S.faults source.old) (S.faults source.new) → ¬ Rose (K.faults sink.old) (K.faults sink.new) → (result ≡ Status.Done) ⊎ (result ≡ Status.Memory) }
+{
+    match command_in(words) {
+        None => Status::Usage,
+        Some(Command::Run) => match machine_of(alloc, source) {
+            Ok(machine) => trace_into(alloc, &machine, sink, gate),
+            Err(status) => status,
+        },
+    }
+}
+
+/// The machine that a source describes. The error is the answer of the program.
+fn machine_of<S: Source>(alloc: Global, source: &mut S) -> Result<Machine, Status>
+    ensures ok { IfOk result (CameMachine LIMIT (S.rest source.old) (S.rest source.new)) }
+    ensures read_fault { result ≡ Err Status.ReadFault → Rose (S.faults source.old) (S.faults source.new) }
+    ensures too_long { result ≡ Err (Status.Refused Refusal.TooLong) → CameMore LIMIT (S.rest source.old) (S.rest source.new) }
+    ensures not_toml { result ≡ Err (Status.Refused Refusal.NotToml) → CameNoToml LIMIT (S.rest source.old) (S.rest source.new) }
+    ensures unbuilt { result ≡ Err (Status.Refused Refusal.Unbuilt) → CameUnbuilt LIMIT (S.rest source.old) (S.rest source.new) }
+    ensures answers { IfErr result IsOfFile }
+    ensures later { S.faults source.old ≤ S.faults source.new }
+{
+    let bytes = match read_whole(alloc, source) {
+        Ok(bytes) => bytes,
+        Err(ReadRefusal::Fault) => return Err(Status::ReadFault),
+        Err(ReadRefusal::TooLong) => return Err(Status::Refused(Refusal::TooLong)),
+        Err(ReadRefusal::Memory) => return Err(Status::Memory),
+    };
+    match read_machine(alloc, bytes.as_slice()) {
+        Ok(machine) => Ok(machine),
+        Err(FileError::NotToml) => Err(Status::Refused(Refusal::NotToml)),
+        Err(FileError::Unbuilt) => Err(Status::Refused(Refusal::Unbuilt)),
+        Err(FileError::Memory(_)) => Err(Status::Memory),
+    }
+}
+
+/// Runs a machine and writes its trace.
+fn trace_into<K: Sink, G: Gate>(alloc: Global, machine: &Machine, sink: &mut K, gate: &G) -> Status
+    ensures done { result ≡ Status.Done → Traced machine.now (Grew (K.written sink.old) (K.written sink.new)) }
+    ensures write_fault { result ≡ Status.WriteFault → Rose (K.faults sink.old) (K.faults sink.new) }
+    ensures cut { result ≡ Status.WriteFault → Traced machine.now (GrewByPrefix (K.written sink.old) (K.written sink.new)) }
+    ensures silent { result ≡ Status.Memory → sink.new ≡ sink.old }
+    ensures answers { IsOfRun result }
+    ensures later { K.faults sink.old ≤ K.faults sink.new }
+{
+    match run_machine(alloc, machine, gate) {
+        Ok(trace) => match write_trace(sink, &trace) {
+            Ok(()) => Status::Done,
+            Err(WriteFault) => Status::WriteFault,
+        },
+        Err(_) => Status::Memory,
+    }
+}

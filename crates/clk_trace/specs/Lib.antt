@@ -1,0 +1,10 @@
+pub mod TraceText
+pub mod Taking
+pub mod Parts
+pub mod ScriptEvents
+pub mod TicketOrder
+pub mod RightReadings
+pub mod WordHistory
+pub mod LegalHistory
+pub mod SeenBefore
+pub mod LawfulTrace

@@ -1,0 +1,149 @@
+ghost use Rattle.std.specs.Prelude.{◌≡◌, ◌+◌, ◌<◌, ◌≤◌, [], ◌∷◌, ◌++◌, true, false, length, map, decimal, OnOk, OnErr};
+ghost use Rattle.clk_base.specs.Causes.{Grew, GrewByPrefix, HasCause};
+ghost use Rattle.clk_base.specs.Text.{line};
+ghost use Rattle.clk_trace.specs.Taking.{Buffered, Takes, progress_of};
+ghost use Rattle.clk_trace.specs.Parts.{part_text};
+
+use crate::sink::{Failed, Sink};
+use std::marker::Model;
+
+const SIZE: usize = 8192;
+
+/// A write of a text failed, and a beginning of it was written.
+#[derive(Clone, Copy, PartialEq, Eq, Debug)]
+pub struct WriteFault;
+
+/// A word of a line: a name, or a number in decimal.
+#[derive(Clone, Copy)]
+pub(crate) enum Part {
+    Name(&'static str),
+    Unsigned(u64),
+    Signed(i64),
+}
+
+/// Text on its way to a sink. A failed write is kept, and nothing is written after it, so that a text is formatted with
+/// no error exits and `finish` tells how it went.
+#[derive(Drop)]
+pub(crate) struct Out {
+    buf: [u8; SIZE],
+    len: usize,
+    failed: bool,
+}
+
+impl Model for Out {
+    ghost use Rattle.std.specs.Prelude.{◌≤◌, take};
+    ghost use Rattle.clk_trace.specs.Taking.{Buffered};
+
+    ghost Value = { Buffered };
+
+    ghost view = { λ o. record { waiting = take o.len o.buf; failed = o.failed } };
+
+    ghost invariant = { λ o. o.len ≤ 8192 };
+}
+
+/// Writes all of the text.
+fn write_all<K: Sink>(sink: &mut K, text: &[u8]) -> Result<(), Failed>
+    ensures ok { OnOk result (Grew (K.written sink.old) (K.written sink.new) text.now) }
+    ensures err { OnErr result (GrewByPrefix (K.written sink.old) (K.written sink.new) text.now) }
+    ensures cause { HasCause (K.faults sink.old) (K.faults sink.new) result }
+{
+    let mut left = text;
+    while !left.is_empty() {
+        let taken = sink.write(left)?;
+        let (_, rest) = left.split_at(taken);
+        left = rest;
+    }
+    Ok(())
+}
+
+impl Out {
+    /// An empty buffer.
+    pub fn new() -> Out
+        ensures { result ≡ record { waiting = []; failed = false } }
+    {
+        Out {
+            buf: [0; SIZE],
+            len: 0,
+            failed: false,
+        }
+    }
+
+    /// Writes what waits.
+    fn flush<K: Sink>(&mut self, sink: &mut K)
+        ensures takes { Takes (progress_of K.written K.faults sink.old self.old) (progress_of K.written K.faults sink.new self.new) [] }
+        ensures empty { self.new.waiting ≡ [] }
+    {
+        if !self.failed {
+            self.failed = write_all(sink, &self.buf[..self.len]).is_err();
+        }
+        self.len = 0;
+    }
+
+    /// Writes a text past the buffer, in which nothing waits.
+    fn pass<K: Sink>(&mut self, sink: &mut K, text: &[u8])
+        requires { self.old.waiting ≡ [] }
+        ensures { Takes (progress_of K.written K.faults sink.old self.old) (progress_of K.written K.faults sink.new self.new) text.now }
+    {
+        if !self.failed {
+            self.failed = write_all(sink, text).is_err();
+        }
+    }
+
+    /// Puts a text behind what waits. There must be room for it.
+    fn keep(&mut self, text: &[u8])
+        requires { length self.old.waiting + length text.now ≤ 8192 }
+        ensures { self.new ≡ record { waiting = self.old.waiting ++ text.now; failed = self.old.failed } }
+    {
+        let end = self.len + text.len();
+        self.buf[self.len..end].copy_from_slice(text);
+        self.len = end;
+    }
+
+    /// Appends a text, of any length.
+    fn text<K: Sink>(&mut self, sink: &mut K, text: &[u8])
+        ensures { Takes (progress_of K.written K.faults sink.old self.old) (progress_of K.written K.faults sink.new self.new) text.now }
+    {
+        if text.len() > SIZE - self.len {
+            self.flush(sink);
+        }
+        if text.len() > SIZE {
+            self.pass(sink, text);
+        } else {
+            self.keep(text);
+        }
+    }
+
+    /// Appends a word.
+    fn part<K: Sink>(&mut self, sink: &mut K, part: &Part)
+        ensures { Takes (progress_of K.written K.faults sink.old self.old) (progress_of K.written K.faults sink.new self.new) (part_text part.now) }
+    {
+        let mut digits = itoa::Buffer::new();
+        match part {
+            Part::Name(name) => self.text(sink, name.as_bytes()),
+            Part::Unsigned(n) => self.text(sink, digits.format(*n).as_bytes()),
+            Part::Signed(n) => self.text(sink, digits.format(*n).as_bytes()),
+        }
+    }
+
+    /// Writes a line: its words, parted by spaces.
+    pub fn line<K: Sink>(&mut self, sink: &mut K, first: &Part, rest: &[Part])
+        ensures { Takes (progress_of K.written K.faults sink.old self.old) (progress_of K.written K.faults sink.new self.new) (line (part_text first.now ∷ map part_text rest.now)) }
+    {
+        self.part(sink, first);
+        for part in rest {
+            self.text(sink, b" ");
+            self.part(sink, part);
+        }
+        self.text(sink, b"\n");
+    }
+
+    /// Writes what still waits. The error is a write that failed, now or before.
+    pub fn finish<K: Sink>(&mut self, sink: &mut K) -> Result<(), WriteFault>
+        ensures takes { Takes (progress_of K.written K.faults sink.old self.old) (progress_of K.written K.faults sink.new self.new) [] }
+        ensures ok { OnOk result (self.new ≡ record { waiting = []; failed = false }) }
+        ensures err { OnErr result (self.new.failed ≡ true) }
+    {
+        self.flush(sink);
+        if self.failed { Err(WriteFault) } else { Ok(()) }
+    }
+}
