@@ -2,7 +2,7 @@ ghost use Rattle.std.specs.Prelude.{◌≡◌, ◌↔◌, codes, option_map, IfO
 ghost use Rattle.std.specs.List.{All};
 ghost use Rattle.toml.specs.Data.{get_member};
 ghost use Rattle.toml.specs.View.{array_view, table_view};
-ghost use Rattle.clk_machine.specs.Plan.{IsInRange, tickets_needed};
+ghost use Rattle.clk_machine.specs.Plan.{IsInRange};
 ghost use Rattle.clk_file.specs.Found.{Finds};
 ghost use Rattle.clk_file.specs.Parts.{SpellsCpu, IsShort};
 ghost use Rattle.clk_file.specs.Plain.{HasPlainForm, Describes, cpus_of, plain_reference};

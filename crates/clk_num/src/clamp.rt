@@ -1,4 +1,4 @@
-ghost use Rattle.std.specs.Prelude.{◌≡◌, ◌^◌, pos, ◌≤ℤ◌};
+ghost use Rattle.std.specs.Prelude.{◌≡◌, pos, ◌≤ℤ◌};
 ghost use Rattle.clk_num.specs.Clamp.{raise, local_target};
 ghost use Rattle.clk_num.specs.Range.{IsNear};
 

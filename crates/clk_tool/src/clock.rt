@@ -1,4 +1,4 @@
-ghost use Rattle.std.specs.Prelude.{◌≡◌, ℕ, ◌+◌, ◌*◌, ◌^◌, ◌<◌, ◌≤◌, ℤ, pos, ◌+ℤ◌, ◌-ℤ◌, ◌≤ℤ◌, List, [], ◌∷◌, ◌++◌, length, IfOk};
+ghost use Rattle.std.specs.Prelude.{◌≡◌, ◌+◌, ◌^◌, ◌<◌, ◌≤◌, ℤ, pos, ◌+ℤ◌, ◌≤ℤ◌};
 ghost use Rattle.clk_num.specs.Range.{IsNear};
 ghost use Rattle.clk_num.specs.Clamp.{raise, local_target, elapsed};
 ghost use Rattle.clk_machine.specs.Reading.{IsRightReading};
@@ -70,7 +70,8 @@ impl Clock {
         requires ready { IsReady machine.now self.now }
         requires raw { (pos 0 ≤ℤ raw.now.ns) × (raw.now.ns ≤ℤ pos (2 ^ 49)) }
         ensures near { IsNear 54 result }
-        ensures value { result ≡ raise self.now.word (local_target (self.now.tick_gtod +ℤ self.now.offset) (elapsed raw.now.ns self.now.tick_raw) (pos machine.now.tick)) }
+        ensures value { result ≡ raise self.now.word (local_target (self.now.tick_gtod +ℤ self.now.offset)
+            (elapsed raw.now.ns self.now.tick_raw) (pos machine.now.tick)) }
     {
         let base = self.tick_gtod + self.offset;
         let delta = (raw.ns - self.tick_raw).max(0);

@@ -1,7 +1,5 @@
-ghost use Rattle.std.specs.Prelude.{◌≡◌, ◌*◌, ◌≤◌, [], length, IfOk};
+ghost use Rattle.std.specs.Prelude.{◌≤◌, length, IfOk};
 ghost use Rattle.clk_trace.specs.LawfulTrace.{IsLawful};
-ghost use Rattle.clk_tool.specs.Booting.{IsBooted, IsRunOf};
-ghost use Rattle.clk_tool.specs.Making.{HasMade};
 ghost use Rattle.clk_tool.specs.Room.{HasRoom};
 
 use crate::boot::{Boot, boot_machine};

@@ -1,5 +1,5 @@
-ghost use Rattle.std.specs.Prelude.{◌≡◌, ℕ, ◌+◌, ◌*◌, ◌^◌, ◌<◌, ◌≤◌, ℤ, pos, List, [], ◌∷◌, ◌++◌, length, slice_index_or};
-ghost use Rattle.clk_machine.specs.Plan.{tickets_of, IsInRange, threads_of};
+ghost use Rattle.std.specs.Prelude.{◌≡◌, ◌+◌, ◌^◌, ◌<◌, ◌≤◌, pos, length};
+ghost use Rattle.clk_machine.specs.Plan.{tickets_of, IsInRange};
 ghost use Rattle.clk_machine.specs.declared.script.Word.TheVariants as word;
 ghost use Rattle.clk_trace.specs.ScriptEvents.{IsLocal, IsStamp, IsPause};
 ghost use Rattle.clk_tool.specs.Running.{IsReady};

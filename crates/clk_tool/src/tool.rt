@@ -1,4 +1,4 @@
-ghost use Rattle.std.specs.Prelude.{◌≡◌, ◌≢◌, ◌↔◌, ◌⊎◌, ◌≤◌, None, IsSome, IfOk, IfErr, map, string_bytes};
+ghost use Rattle.std.specs.Prelude.{◌≡◌, ◌↔◌, ◌⊎◌, ◌≤◌, None, IsSome, IfOk, IfErr, map, string_bytes};
 ghost use Rattle.clk_base.specs.Causes.{Rose, Grew, GrewByPrefix};
 ghost use Rattle.clk_tool.specs.Whole.{CameMore};
 ghost use Rattle.clk_tool.specs.Commands.{command_of};
@@ -28,17 +28,22 @@ pub fn clock_tool<R, S: Source, K: Sink, G: Gate>(
 ) -> Status
     // On `Done` the source was read to its end, and the text of a lawful trace of the machine that its bytes describe
     // was written, whole.
-    ensures done { result ≡ Status.Done → Ran LIMIT (S.rest source.old) (S.rest source.new) (Grew (K.written sink.old) (K.written sink.new)) }
+    ensures done { result ≡ Status.Done →
+        Ran LIMIT (S.rest source.old) (S.rest source.new) (Grew (K.written sink.old) (K.written sink.new)) }
 
     // The causes of the other answers.
     ensures usage { (result ≡ Status.Usage) ↔ (command_of (map (λ w. string_bytes w) words.now) ≡ None) }
     ensures read_fault { result ≡ Status.ReadFault → Rose (S.faults source.old) (S.faults source.new) }
-    ensures too_long { result ≡ Status.Refused Refusal.TooLong → CameMore LIMIT (S.rest source.old) (S.rest source.new) }
-    ensures not_toml { result ≡ Status.Refused Refusal.NotToml → CameNoToml LIMIT (S.rest source.old) (S.rest source.new) }
-    ensures unbuilt { result ≡ Status.Refused Refusal.Unbuilt → CameUnbuilt LIMIT (S.rest source.old) (S.rest source.new) }
+    ensures too_long { result ≡ Status.Refused Refusal.TooLong →
+        CameMore LIMIT (S.rest source.old) (S.rest source.new) }
+    ensures not_toml { result ≡ Status.Refused Refusal.NotToml →
+        CameNoToml LIMIT (S.rest source.old) (S.rest source.new) }
+    ensures unbuilt { result ≡ Status.Refused Refusal.Unbuilt →
+        CameUnbuilt LIMIT (S.rest source.old) (S.rest source.new) }
     ensures no_place { NamesNoPlace result }
     ensures write_fault { result ≡ Status.WriteFault → Rose (K.faults sink.old) (K.faults sink.new) }
-    ensures cut { result ≡ Status.WriteFault → Ran LIMIT (S.rest source.old) (S.rest source.new) (GrewByPrefix (K.written sink.old) (K.written sink.new)) }
+    ensures cut { result ≡ Status.WriteFault →
+        Ran LIMIT (S.rest source.old) (S.rest source.new) (GrewByPrefix (K.written sink.old) (K.written sink.new)) }
 
     // What stays the same.
     ensures silent { IsSilent result → sink.new ≡ sink.old }
@@ -46,7 +51,9 @@ pub fn clock_tool<R, S: Source, K: Sink, G: Gate>(
     ensures counts { (S.faults source.old ≤ S.faults source.new) × (K.faults sink.old ≤ K.faults sink.new) }
 
     // Where the source holds a machine and neither end failed, only want of memory is left.
-    ensures complete { IsSome (command_of (map (λ w. string_bytes w) words.now)) → HoldsMachine LIMIT (S.rest source.old) → ¬ Rose (S.faults source.old) (S.faults source.new) → ¬ Rose (K.faults sink.old) (K.faults sink.new) → (result ≡ Status.Done) ⊎ (result ≡ Status.Memory) }
+    ensures complete { IsSome (command_of (map (λ w. string_bytes w) words.now)) → HoldsMachine LIMIT (S.rest source.old) →
+        ¬ Rose (S.faults source.old) (S.faults source.new) → ¬ Rose (K.faults sink.old) (K.faults sink.new) →
+        (result ≡ Status.Done) ⊎ (result ≡ Status.Memory) }
 {
     match command_in(words) {
         None => Status::Usage,
@@ -61,9 +68,12 @@ pub fn clock_tool<R, S: Source, K: Sink, G: Gate>(
 fn machine_of<S: Source>(alloc: Global, source: &mut S) -> Result<Machine, Status>
     ensures ok { IfOk result (CameMachine LIMIT (S.rest source.old) (S.rest source.new)) }
     ensures read_fault { result ≡ Err Status.ReadFault → Rose (S.faults source.old) (S.faults source.new) }
-    ensures too_long { result ≡ Err (Status.Refused Refusal.TooLong) → CameMore LIMIT (S.rest source.old) (S.rest source.new) }
-    ensures not_toml { result ≡ Err (Status.Refused Refusal.NotToml) → CameNoToml LIMIT (S.rest source.old) (S.rest source.new) }
-    ensures unbuilt { result ≡ Err (Status.Refused Refusal.Unbuilt) → CameUnbuilt LIMIT (S.rest source.old) (S.rest source.new) }
+    ensures too_long { result ≡ Err (Status.Refused Refusal.TooLong) →
+        CameMore LIMIT (S.rest source.old) (S.rest source.new) }
+    ensures not_toml { result ≡ Err (Status.Refused Refusal.NotToml) →
+        CameNoToml LIMIT (S.rest source.old) (S.rest source.new) }
+    ensures unbuilt { result ≡ Err (Status.Refused Refusal.Unbuilt) →
+        CameUnbuilt LIMIT (S.rest source.old) (S.rest source.new) }
     ensures answers { IfErr result IsOfFile }
     ensures later { S.faults source.old ≤ S.faults source.new }
 {
@@ -83,9 +93,11 @@ fn machine_of<S: Source>(alloc: Global, source: &mut S) -> Result<Machine, Statu
 
 /// Runs a machine and writes its trace.
 fn trace_into<K: Sink, G: Gate>(alloc: Global, machine: &Machine, sink: &mut K, gate: &G) -> Status
-    ensures done { result ≡ Status.Done → Traced machine.now (Grew (K.written sink.old) (K.written sink.new)) }
+    ensures done { result ≡ Status.Done →
+        Traced machine.now (Grew (K.written sink.old) (K.written sink.new)) }
     ensures write_fault { result ≡ Status.WriteFault → Rose (K.faults sink.old) (K.faults sink.new) }
-    ensures cut { result ≡ Status.WriteFault → Traced machine.now (GrewByPrefix (K.written sink.old) (K.written sink.new)) }
+    ensures cut { result ≡ Status.WriteFault →
+        Traced machine.now (GrewByPrefix (K.written sink.old) (K.written sink.new)) }
     ensures silent { result ≡ Status.Memory → sink.new ≡ sink.old }
     ensures answers { IsOfRun result }
     ensures later { K.faults sink.old ≤ K.faults sink.new }

@@ -1,4 +1,4 @@
-ghost use Rattle.std.specs.Prelude.{◌≡◌, ◌+◌, ◌<◌, ◌≤◌, [], ◌∷◌, ◌++◌, true, false, length, map, decimal, OnOk, OnErr};
+ghost use Rattle.std.specs.Prelude.{◌≡◌, ◌+◌, ◌<◌, ◌≤◌, [], ◌∷◌, ◌++◌, true, false, length, map, OnOk, OnErr};
 ghost use Rattle.clk_base.specs.Causes.{Grew, GrewByPrefix, HasCause};
 ghost use Rattle.clk_base.specs.Text.{line};
 ghost use Rattle.clk_trace.specs.Taking.{Buffered, Takes, progress_of};
@@ -70,7 +70,8 @@ impl Out {
 
     /// Writes what waits.
     fn flush<K: Sink>(&mut self, sink: &mut K)
-        ensures takes { Takes (progress_of K.written K.faults sink.old self.old) (progress_of K.written K.faults sink.new self.new) [] }
+        ensures takes { Takes (progress_of K.written K.faults sink.old self.old)
+            (progress_of K.written K.faults sink.new self.new) [] }
         ensures empty { self.new.waiting ≡ [] }
     {
         if !self.failed {
@@ -82,7 +83,8 @@ impl Out {
     /// Writes a text past the buffer, in which nothing waits.
     fn pass<K: Sink>(&mut self, sink: &mut K, text: &[u8])
         requires { self.old.waiting ≡ [] }
-        ensures { Takes (progress_of K.written K.faults sink.old self.old) (progress_of K.written K.faults sink.new self.new) text.now }
+        ensures { Takes (progress_of K.written K.faults sink.old self.old)
+            (progress_of K.written K.faults sink.new self.new) text.now }
     {
         if !self.failed {
             self.failed = write_all(sink, text).is_err();
@@ -101,7 +103,8 @@ impl Out {
 
     /// Appends a text, of any length.
     fn text<K: Sink>(&mut self, sink: &mut K, text: &[u8])
-        ensures { Takes (progress_of K.written K.faults sink.old self.old) (progress_of K.written K.faults sink.new self.new) text.now }
+        ensures { Takes (progress_of K.written K.faults sink.old self.old)
+            (progress_of K.written K.faults sink.new self.new) text.now }
     {
         if text.len() > SIZE - self.len {
             self.flush(sink);
@@ -115,7 +118,8 @@ impl Out {
 
     /// Appends a word.
     fn part<K: Sink>(&mut self, sink: &mut K, part: &Part)
-        ensures { Takes (progress_of K.written K.faults sink.old self.old) (progress_of K.written K.faults sink.new self.new) (part_text part.now) }
+        ensures { Takes (progress_of K.written K.faults sink.old self.old)
+            (progress_of K.written K.faults sink.new self.new) (part_text part.now) }
     {
         let mut digits = itoa::Buffer::new();
         match part {
@@ -127,7 +131,8 @@ impl Out {
 
     /// Writes a line: its words, parted by spaces.
     pub fn line<K: Sink>(&mut self, sink: &mut K, first: &Part, rest: &[Part])
-        ensures { Takes (progress_of K.written K.faults sink.old self.old) (progress_of K.written K.faults sink.new self.new) (line (part_text first.now ∷ map part_text rest.now)) }
+        ensures { Takes (progress_of K.written K.faults sink.old self.old)
+            (progress_of K.written K.faults sink.new self.new) (line (part_text first.now ∷ map part_text rest.now)) }
     {
         self.part(sink, first);
         for part in rest {
@@ -139,7 +144,8 @@ impl Out {
 
     /// Writes what still waits. The error is a write that failed, now or before.
     pub fn finish<K: Sink>(&mut self, sink: &mut K) -> Result<(), WriteFault>
-        ensures takes { Takes (progress_of K.written K.faults sink.old self.old) (progress_of K.written K.faults sink.new self.new) [] }
+        ensures takes { Takes (progress_of K.written K.faults sink.old self.old)
+            (progress_of K.written K.faults sink.new self.new) [] }
         ensures ok { OnOk result (self.new ≡ record { waiting = []; failed = false }) }
         ensures err { OnErr result (self.new.failed ≡ true) }
     {

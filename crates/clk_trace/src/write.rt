@@ -37,7 +37,8 @@ pub fn write_trace<K: Sink>(sink: &mut K, trace: &Trace) -> Result<(), WriteFaul
 }
 
 fn write_boots<K: Sink>(out: &mut Out, sink: &mut K, boots: &[StableStamp])
-    ensures { Takes (progress_of K.written K.faults sink.old out.old) (progress_of K.written K.faults sink.new out.new) (lines_from boot_line 0 boots.now) }
+    ensures { Takes (progress_of K.written K.faults sink.old out.old)
+        (progress_of K.written K.faults sink.new out.new) (lines_from boot_line 0 boots.now) }
 {
     for boot in boots {
         write_boot(out, sink, boot);
@@ -45,7 +46,8 @@ fn write_boots<K: Sink>(out: &mut Out, sink: &mut K, boots: &[StableStamp])
 }
 
 fn write_boot<K: Sink>(out: &mut Out, sink: &mut K, boot: &StableStamp)
-    ensures { Takes (progress_of K.written K.faults sink.old out.old) (progress_of K.written K.faults sink.new out.new) (boot_line 0 boot.now) }
+    ensures { Takes (progress_of K.written K.faults sink.old out.old)
+        (progress_of K.written K.faults sink.new out.new) (boot_line 0 boot.now) }
 {
     let raw = &boot.raw;
     out.line(
@@ -63,7 +65,9 @@ fn write_boot<K: Sink>(out: &mut Out, sink: &mut K, boot: &StableStamp)
 }
 
 fn write_start<K: Sink>(out: &mut Out, sink: &mut K, trace: &Trace)
-    ensures { Takes (progress_of K.written K.faults sink.old out.old) (progress_of K.written K.faults sink.new out.new) (line (codes "start" ∷ mode_name trace.now.starts ∷ signed_decimal trace.now.sched_offset ∷ signed_decimal trace.now.gtod_offset ∷ [])) }
+    ensures { Takes (progress_of K.written K.faults sink.old out.old)
+        (progress_of K.written K.faults sink.new out.new)
+        (line (codes "start" ∷ mode_name trace.now.starts ∷ signed_decimal trace.now.sched_offset ∷ signed_decimal trace.now.gtod_offset ∷ [])) }
 {
     let mode = match trace.starts {
         Mode::Stable => "stable",
@@ -81,7 +85,9 @@ fn write_start<K: Sink>(out: &mut Out, sink: &mut K, trace: &Trace)
 }
 
 fn write_words<K: Sink>(out: &mut Out, sink: &mut K, trace: &Trace)
-    ensures { Takes (progress_of K.written K.faults sink.old out.old) (progress_of K.written K.faults sink.new out.new) (lines_from (word_line trace.now.start_word) 0 trace.now.histories.items) }
+    ensures { Takes (progress_of K.written K.faults sink.old out.old)
+        (progress_of K.written K.faults sink.new out.new)
+        (lines_from (word_line trace.now.start_word) 0 trace.now.histories.items) }
 {
     for word in 0..trace.histories.len() {
         write_word(out, sink, word, trace);
@@ -89,7 +95,8 @@ fn write_words<K: Sink>(out: &mut Out, sink: &mut K, trace: &Trace)
 }
 
 fn write_word<K: Sink>(out: &mut Out, sink: &mut K, word: usize, trace: &Trace)
-    ensures { Takes (progress_of K.written K.faults sink.old out.old) (progress_of K.written K.faults sink.new out.new) (word_line trace.now.start_word word trace.now) }
+    ensures { Takes (progress_of K.written K.faults sink.old out.old)
+        (progress_of K.written K.faults sink.new out.new) (word_line trace.now.start_word word trace.now) }
 {
     out.line(
         sink,
@@ -100,7 +107,9 @@ fn write_word<K: Sink>(out: &mut Out, sink: &mut K, word: usize, trace: &Trace)
 
 fn write_threads<K: Sink>(out: &mut Out, sink: &mut K, trace: &Trace)
     requires { length trace.now.cpu_of.items ≡ length trace.now.threads.items }
-    ensures { Takes (progress_of K.written K.faults sink.old out.old) (progress_of K.written K.faults sink.new out.new) (lines_from (thread_lines trace.now.cpu_of.items) 0 trace.now.threads.items) }
+    ensures { Takes (progress_of K.written K.faults sink.old out.old)
+        (progress_of K.written K.faults sink.new out.new)
+        (lines_from (thread_lines trace.now.cpu_of.items) 0 trace.now.threads.items) }
 {
     let cpus = trace.cpu_of.items();
     for (thread, events) in trace.threads.items().iter().enumerate() {
@@ -109,7 +118,9 @@ fn write_threads<K: Sink>(out: &mut Out, sink: &mut K, trace: &Trace)
 }
 
 fn write_thread<K: Sink>(out: &mut Out, sink: &mut K, thread: usize, cpu: u32, events: &List<Event>)
-    ensures { Takes (progress_of K.written K.faults sink.old out.old) (progress_of K.written K.faults sink.new out.new) (line (codes "thread" ∷ decimal thread ∷ decimal cpu ∷ []) ++ lines_from event_line 0 events.now.items) }
+    ensures { Takes (progress_of K.written K.faults sink.old out.old)
+        (progress_of K.written K.faults sink.new out.new)
+        (line (codes "thread" ∷ decimal thread ∷ decimal cpu ∷ []) ++ lines_from event_line 0 events.now.items) }
 {
     out.line(
         sink,
@@ -120,7 +131,8 @@ fn write_thread<K: Sink>(out: &mut Out, sink: &mut K, thread: usize, cpu: u32, e
 }
 
 fn write_events<K: Sink>(out: &mut Out, sink: &mut K, events: &[Event])
-    ensures { Takes (progress_of K.written K.faults sink.old out.old) (progress_of K.written K.faults sink.new out.new) (lines_from event_line 0 events.now) }
+    ensures { Takes (progress_of K.written K.faults sink.old out.old)
+        (progress_of K.written K.faults sink.new out.new) (lines_from event_line 0 events.now) }
 {
     for event in events {
         write_event(out, sink, event);
@@ -128,7 +140,8 @@ fn write_events<K: Sink>(out: &mut Out, sink: &mut K, events: &[Event])
 }
 
 fn write_event<K: Sink>(out: &mut Out, sink: &mut K, event: &Event)
-    ensures { Takes (progress_of K.written K.faults sink.old out.old) (progress_of K.written K.faults sink.new out.new) (event_line 0 event.now) }
+    ensures { Takes (progress_of K.written K.faults sink.old out.old)
+        (progress_of K.written K.faults sink.new out.new) (event_line 0 event.now) }
 {
     let call = Unsigned(u64::from(event.call));
     match &event.kind {
@@ -181,7 +194,8 @@ fn write_event<K: Sink>(out: &mut Out, sink: &mut K, event: &Event)
 }
 
 fn write_histories<K: Sink>(out: &mut Out, sink: &mut K, histories: &[List<HistoryStep>])
-    ensures { Takes (progress_of K.written K.faults sink.old out.old) (progress_of K.written K.faults sink.new out.new) (lines_from history_lines 0 histories.now) }
+    ensures { Takes (progress_of K.written K.faults sink.old out.old)
+        (progress_of K.written K.faults sink.new out.new) (lines_from history_lines 0 histories.now) }
 {
     for (word, steps) in histories.iter().enumerate() {
         write_history(out, sink, word, steps);
@@ -189,7 +203,8 @@ fn write_histories<K: Sink>(out: &mut Out, sink: &mut K, histories: &[List<Histo
 }
 
 fn write_history<K: Sink>(out: &mut Out, sink: &mut K, word: usize, steps: &List<HistoryStep>)
-    ensures { Takes (progress_of K.written K.faults sink.old out.old) (progress_of K.written K.faults sink.new out.new) (history_lines word steps.now) }
+    ensures { Takes (progress_of K.written K.faults sink.old out.old)
+        (progress_of K.written K.faults sink.new out.new) (history_lines word steps.now) }
 {
     out.line(
         sink,
@@ -200,7 +215,8 @@ fn write_history<K: Sink>(out: &mut Out, sink: &mut K, word: usize, steps: &List
 }
 
 fn write_steps<K: Sink>(out: &mut Out, sink: &mut K, steps: &[HistoryStep])
-    ensures { Takes (progress_of K.written K.faults sink.old out.old) (progress_of K.written K.faults sink.new out.new) (lines_from step_line 0 steps.now) }
+    ensures { Takes (progress_of K.written K.faults sink.old out.old)
+        (progress_of K.written K.faults sink.new out.new) (lines_from step_line 0 steps.now) }
 {
     for step in steps {
         write_step(out, sink, step);
@@ -208,7 +224,8 @@ fn write_steps<K: Sink>(out: &mut Out, sink: &mut K, steps: &[HistoryStep])
 }
 
 fn write_step<K: Sink>(out: &mut Out, sink: &mut K, step: &HistoryStep)
-    ensures { Takes (progress_of K.written K.faults sink.old out.old) (progress_of K.written K.faults sink.new out.new) (step_line 0 step.now) }
+    ensures { Takes (progress_of K.written K.faults sink.old out.old)
+        (progress_of K.written K.faults sink.new out.new) (step_line 0 step.now) }
 {
     out.line(
         sink,
