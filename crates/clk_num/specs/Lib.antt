@@ -1,4 +1,9 @@
 pub mod Listed
+pub mod Lent
 pub mod Clamp
 pub mod Biased
 pub mod Range
+pub mod Masked
+pub mod Conversion
+pub mod Rates
+pub mod Laws

@@ -1,4 +1,5 @@
-ghost use Rattle.std.specs.Prelude.{◌≡◌, ◌↔◌, ◌+◌, ◌<◌, [], ◌∷◌, ◌++◌, ◌-◌, length, IsTrue, IfOk, slice_index_or, vec_len, vec_capacity};
+ghost use Rattle.std.specs.Prelude.{◌≡◌, ◌↔◌, ℕ, ◌+◌, ◌<◌, [], ◌∷◌, ◌++◌, ◌-◌, length, IsTrue, IfOk, slice_index_or, vec_len, vec_capacity};
+ghost use Rattle.std.specs.Borrow.{sem};
 
 use std::alloc::{AllocError, Global};
 use std::marker::Model;
@@ -21,6 +22,8 @@ impl<T> Model for List<T> {
 }
 
 impl<T> List<T> {
+    ghost use Rattle.clk_num.specs.Lent.{lends_items};
+
     /// An empty list with room for `n` items. The error is want of memory.
     pub fn with_room(alloc: Global, n: usize) -> Result<List<T>, AllocError>
         ensures items { IfOk result (λ l. l.items ≡ []) }
@@ -53,6 +56,15 @@ impl<T> List<T> {
         ensures room { self.new.room + 1 ≡ self.old.room }
     {
         self.items.insert(self.items.len(), item).unwrap()
+    }
+
+    /// Takes the last item out, and its place becomes room. There must be one.
+    pub fn pop(&mut self) -> T
+        requires { 0 < length self.old.items }
+        ensures items { self.new.items ++ result ∷ [] ≡ self.old.items }
+        ensures room { self.new.room ≡ self.old.room + 1 }
+    {
+        self.items.pop().unwrap()
     }
 
     /// How many more items there is room for.
@@ -89,5 +101,13 @@ impl<T> List<T> {
         ensures { result.now ≡ self.now.items }
     {
         self.items.as_slice()
+    }
+
+    /// The items, in order, to write. What is there once they are given back is the list, and the room stays.
+    pub fn items_mut(&mut self) -> &mut [T]
+        ensures* writes_back { sem 𝓛 (lends_items T.row self.entry result) }
+        ensures value { result.now ≡ self.old.items }
+    {
+        self.items.as_mut_slice()
     }
 }

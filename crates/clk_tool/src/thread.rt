@@ -1,6 +1,5 @@
 ghost use Rattle.std.specs.Prelude.{◌≡◌, ◌+◌, ◌^◌, ◌<◌, ◌≤◌, pos, length};
 ghost use Rattle.clk_machine.specs.Plan.{tickets_of, IsInRange};
-ghost use Rattle.clk_machine.specs.declared.script.Word.TheVariants as word;
 ghost use Rattle.clk_trace.specs.ScriptEvents.{IsLocal, IsStamp, IsPause};
 ghost use Rattle.clk_tool.specs.Running.{IsReady};
 ghost use Rattle.clk_tool.specs.Making.{MakesOne, MakesWord, HasMade};

@@ -1,0 +1,4 @@
+pub mod Totals
+pub mod Blocks
+pub mod Keeping
+pub mod Once

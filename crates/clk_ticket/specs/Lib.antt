@@ -1,0 +1,5 @@
+pub mod Sizes
+pub mod Time
+pub mod Kept
+pub mod Seated
+pub mod Laws
