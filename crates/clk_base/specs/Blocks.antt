@@ -22,6 +22,10 @@ times_in x bs = sum_by (in_block x) bs
 abbrev pub Covers : List Block → ℕ → Type 0
 Covers bs n = (x : ℕ) → times_in x bs ≡ once_below x n
 
+-- each block ends by n
+abbrev pub AllEndBy : ℕ → List Block → Type 0
+AllEndBy n bs = All (λ b. end_of b ≤ n) bs
+
 -- each block lies above those before it
 abbrev pub Rises : List Block → Type 0
 Rises [] = Unit {0}

@@ -1,9 +1,13 @@
 -- Why a read or a write failed, by counts of faults, and what was appended to a sink whose bytes are known.
 use Rattle.std.specs.Prelude.{◌≡◌, ℕ, ◌+◌, ◌-◌, ◌^◌, ◌<◌, ◌≤◌, min, List, [], ◌++◌, length, take, Option, Some, None, Result, MatchResult, OnErr, IsSomeAnd}
 
+-- a count after one more; at the end of its type it stands still
+abbrev pub one_more : ℕ → ℕ
+one_more count = min (count + 1) (2 ^ 64 - 1)
+
 -- a count of faults rose; at the end of its type it cannot, and that counts as a rise
 abbrev pub Rose : ℕ → ℕ → Type 0
-Rose before now = min (before + 1) (2 ^ 64 - 1) ≤ now
+Rose before now = one_more before ≤ now
 
 -- a count of faults never falls, and where the call failed it rose
 pub record HasCause {T E : Type 0} (before now : ℕ) (result : Result T E) : Type 0 where

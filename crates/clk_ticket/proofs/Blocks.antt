@@ -6,7 +6,8 @@ use Rattle.std.proofs.lemmas.List.Elements.{All-nil, All-head, All-tail, All-pus
 use Rattle.std.proofs.lemmas.Bool.Decides.{nat_tests}
 use Rattle.clk_base.specs.declared.block.Block.{Block}
 use Rattle.clk_base.specs.Blocks.{end_of, once_below, in_block, times_in, Rises}
-use Rattle.clk_ticket.specs.Sizes.{size_of, AllEndBy}
+use Rattle.clk_base.specs.Blocks.{AllEndBy}
+use Rattle.clk_ticket.specs.Sizes.{size_of}
 
 -- a block from m to n, and the numbers below m
 in_next : (x m n : ℕ) → m ≤ n → (once_below x n - once_below x m) + once_below x m ≡ once_below x n

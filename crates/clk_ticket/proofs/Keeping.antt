@@ -8,7 +8,8 @@ use Rattle.atomic_table.specs.Table.{State, Me, keeps, step, Allows, Splits, Joi
 use Rattle.atomic_table.proofs.Lists.{at_set, at_snoc}
 use Rattle.clk_base.specs.declared.block.Block.{Block}
 use Rattle.clk_base.specs.Blocks.{once_below, in_block, times_in, Covers}
-use Rattle.clk_ticket.specs.Sizes.{size_of, AllEndBy}
+use Rattle.clk_base.specs.Blocks.{AllEndBy}
+use Rattle.clk_ticket.specs.Sizes.{size_of}
 use Rattle.clk_ticket.specs.declared.rule.Knows.{Knows}
 use Rattle.clk_ticket.specs.Kept.{word_of, Kept, knows_budget, knows_more, knows_less, knows_both, Drew, Looked}
 use Rattle.clk_ticket.proofs.Totals.{total_set, total_has, has_all}

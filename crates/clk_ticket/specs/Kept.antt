@@ -5,7 +5,8 @@ use mathlib.Core.Option.{some}
 use lib.ListN.{get_elem?}
 use Rattle.atomic_table.specs.Table.{State, Me, Step}
 use Rattle.clk_base.specs.Blocks.{once_below, times_in}
-use Rattle.clk_ticket.specs.Sizes.{size_of, AllEndBy}
+use Rattle.clk_base.specs.Blocks.{AllEndBy}
+use Rattle.clk_ticket.specs.Sizes.{size_of}
 use Rattle.clk_ticket.specs.declared.rule.Knows.{Knows}
 
 -- the word is how many tickets were drawn

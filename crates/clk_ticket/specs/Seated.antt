@@ -1,7 +1,7 @@
 -- A `TimeSeat` as contracts see it.
 use Rattle.std.specs.Prelude.{◌≡◌, ℕ, []}
 use Rattle.atomic_table.specs.declared.shared.Seat.{Seat}
-use Rattle.clk_ticket.specs.Sizes.{AllEndBy}
+use Rattle.clk_base.specs.Blocks.{AllEndBy}
 use Rattle.clk_ticket.specs.Time.{Time}
 use Rattle.clk_ticket.specs.declared.rule.Knows.{Knows}
 

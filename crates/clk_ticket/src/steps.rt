@@ -1,7 +1,7 @@
 //! What threads do with their seats.
 ghost use Rattle.std.specs.Prelude.{◌≡◌, ◌+◌, ◌^◌, ◌≤◌};
 ghost use Rattle.clk_base.specs.Blocks.{Rises};
-ghost use Rattle.clk_ticket.specs.Sizes.{AllEndBy};
+ghost use Rattle.clk_base.specs.Blocks.{AllEndBy};
 ghost use Rattle.clk_ticket.specs.Time.{share_of, fresh, after_draw, without, both_of};
 
 use crate::rule::{Both, Cut, Draw, Look, Part};

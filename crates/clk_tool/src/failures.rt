@@ -1,6 +1,6 @@
 ghost use Rattle.std.specs.Prelude.{◌≡◌, ◌<◌, ◌≤◌, is_err};
-ghost use Rattle.clk_base.specs.Causes.{HasCause};
-ghost use Rattle.clk_tool.specs.Failures.{fresh, fails_next, after_call, next};
+ghost use Rattle.clk_base.specs.Causes.{one_more, HasCause};
+ghost use Rattle.clk_tool.specs.Failures.{fresh, fails_next, after_call};
 
 use clk_base::raised;
 use clk_num::List;
@@ -72,7 +72,7 @@ impl FailurePlan {
 
     /// Counts a failure of the call that is under way.
     pub(crate) fn fault(&mut self) -> Failed
-        ensures after { self.new ≡ record self.old { faults = next self.old.faults } }
+        ensures after { self.new ≡ record self.old { faults = one_more self.old.faults } }
         ensures later { self.old.faults ≤ self.new.faults }
     {
         self.faults = raised(self.faults);

@@ -1,8 +1,7 @@
 ghost use Rattle.std.specs.Prelude.{◌≡◌, None, is_err, if◌then◌else◌};
 ghost use Rattle.std.specs.Io.{ReadsAtMost};
 ghost use Rattle.std.specs.Io.KnownBytes.{ReadConsumes};
-ghost use Rattle.clk_base.specs.Causes.{HasCause, Wrote};
-ghost use Rattle.clk_tool.specs.Failures.{next};
+ghost use Rattle.clk_base.specs.Causes.{one_more, HasCause, Wrote};
 
 use crate::source::Source;
 use clk_base::raised;
@@ -47,7 +46,7 @@ impl<R: Read> Source for StdSource<R> {
         ensures bytes { ReadConsumes (R.remaining self.old.inner) (R.remaining self.new.inner) result buf.new }
         ensures cause { HasCause self.old.faults self.new.faults result }
 
-        ensures counted { self.new.faults ≡ (if is_err result then next self.old.faults else self.old.faults) }
+        ensures counted { self.new.faults ≡ (if is_err result then one_more self.old.faults else self.old.faults) }
     {
         match self.inner.read(buf) {
             Ok(n) => Ok(n),
@@ -91,7 +90,7 @@ impl<W: Write> StdSink<W> {
     /// Makes the writer pass on what it has buffered. It fails where the writer's `flush` does, and the count rises.
     pub fn flush(&mut self) -> Result<(), Failed>
         ensures cause { HasCause self.old.faults self.new.faults result }
-        ensures counted { self.new.faults ≡ (if is_err result then next self.old.faults else self.old.faults) }
+        ensures counted { self.new.faults ≡ (if is_err result then one_more self.old.faults else self.old.faults) }
     {
         match self.inner.flush() {
             Ok(()) => Ok(()),
@@ -112,7 +111,7 @@ impl<W: Write> Sink for StdSink<W> {
         ensures bytes { Wrote None None result piece.now }
         ensures cause { HasCause self.old.faults self.new.faults result }
 
-        ensures counted { self.new.faults ≡ (if is_err result then next self.old.faults else self.old.faults) }
+        ensures counted { self.new.faults ≡ (if is_err result then one_more self.old.faults else self.old.faults) }
     {
         match self.inner.write(piece) {
             Ok(n) if n > 0 || piece.is_empty() => Ok(n),

@@ -1,8 +1,8 @@
 -- In which order a run draws its tickets.
-use Rattle.std.specs.Prelude.{ℕ, ◌≤◌, List, [], ◌∷◌, ◌++◌}
+use Rattle.std.specs.Prelude.{ℕ, List, [], ◌∷◌, ◌++◌}
 use Rattle.std.specs.List.{All, flat_map}
 use Rattle.clk_base.specs.declared.block.Block.{Block}
-use Rattle.clk_base.specs.Blocks.{end_of, Covers, Rises}
+use Rattle.clk_base.specs.Blocks.{AllEndBy, Covers, Rises}
 use Rattle.clk_num.specs.Listed.{Listed}
 use Rattle.clk_trace.specs.declared.event.Event.{Event}
 use Rattle.clk_trace.specs.declared.event.EventKind.{EventKind}
@@ -30,5 +30,5 @@ boot_blocks epoch boots = one epoch ∷ flat_map (λ s. one s.gtod_ticket ∷ on
 pub record IsTicketOrder (boot : List Block) (threads : List (Listed Event)) (n : ℕ) : Type 0 where
   pub covers : Covers (boot ++ flat_map (λ es. flat_map blocks_of es.items) threads) n
   pub boot_rises : Rises boot
-  pub boot_first : All (λ b. All (λ a. end_of a ≤ b.first) boot) (flat_map (λ es. flat_map blocks_of es.items) threads)
+  pub boot_first : All (λ b. AllEndBy b.first boot) (flat_map (λ es. flat_map blocks_of es.items) threads)
   pub threads_rise : All (λ es. Rises (flat_map blocks_of es.items)) threads
