@@ -1,4 +1,5 @@
 pub mod Causes
 pub mod Text
 pub mod Blocks
+pub mod First
 pub mod Laws

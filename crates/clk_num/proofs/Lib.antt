@@ -4,3 +4,4 @@ pub mod Converting
 pub mod Greatest
 pub mod Rating
 pub mod Words
+pub mod TrueTime

@@ -193,9 +193,9 @@ some_mult from to maxsec p f tp t m = some_mult_of from to maxsec p f tp t m (gr
 
 -- ---- the seconds of a source
 
--- the cycles of the seconds of a source fit 63 bits: by the quotient of the mask
+-- the cycles of the seconds of a source are few: by the quotient of the mask
 few_of : (mask hz q : ℕ) → q * hz ≤ mask → hz < 2 ^ 32
-    → (if q == 0 then 1 else (if nat_lt 600 q && nat_lt (2 ^ 32 - 1) mask then 600 else q)) * hz < 2 ^ 63
+    → (if q == 0 then 1 else (if nat_lt 600 q && nat_lt (2 ^ 32 - 1) mask then 600 else q)) * hz < 2 ^ 42
 few_of mask hz q le small =
     elim (cases_lt 600 q) [
       | inl many ↦ grind (arith, nat_tests)
@@ -203,5 +203,5 @@ few_of mask hz q le small =
     ]
 
 -- and by the mask
-pub few_cycles : (hz bits : ℕ) → hz < 2 ^ 32 → max_seconds hz bits * hz < 2 ^ 63
+pub few_cycles : (hz bits : ℕ) → hz < 2 ^ 32 → max_seconds hz bits * hz < 2 ^ 42
 few_cycles hz bits small = few_of (mask_of bits) hz (mask_of bits / hz) (div-mul-le_self (mask_of bits) hz) small

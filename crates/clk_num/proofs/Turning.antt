@@ -1,8 +1,10 @@
 -- Masks, and how far a counter of so many bits went.
-use Rattle.std.proofs.Common.{◌≡◌, ℕ, ◌+◌, ◌-◌, ◌*◌, ◌/◌, ◌%◌, ◌^◌, ◌<◌, ◌≤◌, bit_and, arith, ap, sym, subst, ◌∙◌, refl}
+use Rattle.std.proofs.Common.{◌≡◌, ℕ, ◌+◌, ◌-◌, ◌*◌, ◌/◌, ◌%◌, ◌^◌, ◌<◌, ◌≤◌, bit_and, arith, ap, sym, subst, ◌∙◌, refl, inl, inr}
 use Rattle.std.proofs.lemmas.Nat.{and_mask, pow_pos, pow-add, div-add-mod', mod_below, mul-le, le-div}
 use Rattle.std.proofs.lemmas.Nat.Bits.{ones_shr}
+use Rattle.std.proofs.lemmas.Bool.{cases_lt}
 use Rattle.std.proofs.lemmas.Bool.Decides.{nat_tests}
+use Rattle.std.specs.Int.{abs_diff}
 use Rattle.std.proofs.Math.Nat.{add-mul-mod_self_right, mod-eq_of_lt, le_refl}
 use Rattle.std.proofs.Math.Pow.{mod-mod-pow}
 use Rattle.clk_num.specs.Masked.{mask_of, low_bits, turned, masked_delta}
@@ -89,3 +91,33 @@ pub far_is_none : (bits last now : ℕ) → 1 ≤ bits → bits ≤ 64 → last 
 far_is_none bits last now low few far below =
     let half = half_mask bits low in
     sym (too_far (low_bits bits now) (low_bits bits last) bits (now - last) (mask_of bits) (sym (turned_is bits last now few (omega arith) below)) refl (omega arith))
+
+-- counts that went back less than half a turn seem to have gone further than that
+back_is_none : (bits last now : ℕ) → 1 ≤ bits → bits ≤ 64 → now < last → last < now + 2 ^ (bits - 1)
+    → masked_delta (low_bits bits now) (low_bits bits last) bits ≡ 0
+back_is_none bits last now low few h near =
+    let whole = half_turn bits low in
+    let turn : (now + 1 * 2 ^ bits) % 2 ^ bits ≡ now % 2 ^ bits = add-mul-mod_self_right now 1 (2 ^ bits) in
+    let P : ℕ → Type 0 = λ n. masked_delta n (low_bits bits last) bits ≡ 0 in
+    subst P turn (far_is_none bits last (now + 1 * 2 ^ bits) low few (omega arith) (omega arith))
+
+-- what counts as a difference is at most half the mask
+never_half : (bits last now : ℕ) → masked_delta now last bits ≤ mask_of bits / 2
+never_half bits last now = grind (arith, nat_tests)
+
+-- a masked difference is at most how far the counts are apart
+pub never_longer : (bits last now : ℕ) → 1 ≤ bits → bits ≤ 64
+    → masked_delta (low_bits bits now) (low_bits bits last) bits ≤ abs_diff now last
+never_longer bits last now low few =
+    let half = half_mask bits low in
+    let most = never_half bits (low_bits bits last) (low_bits bits now) in
+    elim (cases_lt now last) [
+      | inl back ↦ elim (cases_lt last (now + 2 ^ (bits - 1))) [
+        | inl close ↦ (let e = back_is_none bits last now low few back close in omega arith)
+        | inr far ↦ omega arith
+      ]
+      | inr on ↦ elim (cases_lt now (last + 2 ^ (bits - 1))) [
+        | inl close ↦ (let e = near_is_true bits last now low few on close in omega arith)
+        | inr far ↦ omega arith
+      ]
+    ]

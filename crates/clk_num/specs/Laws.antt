@@ -1,9 +1,10 @@
 -- Laws that functions of this crate carry.
 use Rattle.std.specs.Prelude.{◌≡◌, ℕ, ◌+◌, ◌-◌, ◌*◌, ◌^◌, ◌<◌, ◌≤◌, ℤ, pos, ◌-ℤ◌, ◌≤ℤ◌, ◌<ℤ◌, ◌⊎◌, ◌↔◌, MatchOption}
+use Rattle.std.specs.Int.{abs_diff}
 use Rattle.clk_num.specs.declared.rate.Rate.{Rate}
 use Rattle.clk_num.specs.Conversion.{convert}
 use Rattle.clk_num.specs.Masked.{low_bits, masked_delta}
-use Rattle.clk_num.specs.Rates.{mult_bits, quotient, greatest_shift}
+use Rattle.clk_num.specs.Rates.{mult_bits, quotient, greatest_shift, max_seconds, mult_shift}
 use Rattle.clk_num.specs.Biased.{IsWordOf}
 
 -- a conversion never falls as cycles grow
@@ -16,6 +17,17 @@ ConversionAdds =
     (rate : Rate) (a b : ℕ)
     → (convert (a + b) rate ≡ convert a rate + convert b rate) ⊎ (convert (a + b) rate ≡ convert a rate + convert b rate + 1)
 
+-- where a cycle takes at most 1,000 of the units that it is converted to, and the cycles of maxsec seconds are few, the
+-- time of a conversion is at most the true one and a quarter of a unit a cycle
+abbrev pub ConversionIsTrue : Type 0
+ConversionIsTrue =
+    (from to maxsec cyc : ℕ) → 0 < from → to ≤ 1000 * from → maxsec * from < 2 ^ 53
+    → 4 * (convert cyc (mult_shift from to maxsec) * from) ≤ 4 * (cyc * to) + cyc * from
+
+-- the cycles of the seconds of a source are few
+abbrev pub SourceCyclesAreFew : Type 0
+SourceCyclesAreFew = (hz bits : ℕ) → hz < 2 ^ 32 → max_seconds hz bits * hz < 2 ^ 42
+
 -- what the counter shows of two counts less than half a turn apart tells how far they are apart
 abbrev pub MaskedDifferenceIsTrue : Type 0
 MaskedDifferenceIsTrue =
@@ -27,6 +39,11 @@ abbrev pub MaskedDifferenceIsNone : Type 0
 MaskedDifferenceIsNone =
     (bits last now : ℕ) → 1 ≤ bits → bits ≤ 64 → last + 2 ^ (bits - 1) ≤ now → now < last + 2 ^ bits
     → masked_delta (low_bits bits now) (low_bits bits last) bits ≡ 0
+
+-- and in any case no more than how far they are apart, whichever is greater
+abbrev pub MaskedDifferenceIsShort : Type 0
+MaskedDifferenceIsShort =
+    (bits last now : ℕ) → 1 ≤ bits → bits ≤ 64 → masked_delta (low_bits bits now) (low_bits bits last) bits ≤ abs_diff now last
 
 -- a word has one value, and a value one word
 abbrev pub WordsAreInverse : Type 0

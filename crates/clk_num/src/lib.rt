@@ -10,7 +10,8 @@
 //! - [`List`] is a `Vec` whose room is taken once, so that what runs later takes no memory.
 //!
 //! Each call is its formula over unbounded numbers, which stands in `specs/`. The functions [`conversions_add`],
-//! [`differences_are_true`], [`words_are_values`] and [`shift_is_greatest`] do nothing: they carry the laws of the formulas.
+//! [`conversions_are_true`], [`differences_are_true`], [`words_are_values`] and [`shift_is_greatest`] do nothing: they
+//! carry the laws of the formulas.
 //!
 //! Nothing here says that a rate is exact: a conversion is rounded down, and its mult to the nearest. Nor does a call
 //! refuse what breaks its conditions: a caller proves them.
@@ -29,7 +30,10 @@ mod tests;
 pub use biased::{value_of, word_of};
 pub use clamp::clamp_local;
 pub use conversion::{cyc_to_ns, max_nsecs};
-pub use laws::{conversions_add, differences_are_true, shift_is_greatest, words_are_values};
+pub use laws::{
+    conversions_add, conversions_are_true, differences_are_true, shift_is_greatest,
+    words_are_values,
+};
 pub use list::List;
 pub use masked::{mask_of, masked_delta};
 pub use rate::{Rate, mult_shift, source_rate};

@@ -7,7 +7,7 @@ use Rattle.clk_machine.specs.Reading.{IsRightReading}
 use Rattle.clk_trace.specs.ScriptEvents.{AreEventsOf}
 use Rattle.clk_trace.specs.WordHistory.{steps_from}
 use Rattle.clk_trace.specs.declared.event.Event.{Event}
-use Rattle.clk_trace.specs.declared.trace.Mode.TheVariants.{PerCpu}
+use Rattle.clk_words.specs.declared.opening.Mode.TheVariants.{PerCpu}
 use Rattle.clk_trace.specs.declared.trace.StableStamp.{StableStamp}
 use Rattle.clk_trace.specs.declared.trace.HistoryStep.{HistoryStep}
 use Rattle.clk_trace.specs.declared.trace.Trace.{Trace}

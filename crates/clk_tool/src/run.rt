@@ -6,7 +6,8 @@ use crate::boot::{Boot, boot_machine};
 use crate::thread::Thread;
 use clk_machine::{Gate, Machine};
 use clk_num::List;
-use clk_trace::{Event, HistoryStep, Mode, StableStamp, Trace};
+use clk_trace::{Event, HistoryStep, StableStamp, Trace};
+use clk_words::Mode;
 use std::alloc::{AllocError, Global};
 
 /// All memory of a run, taken before it begins.

@@ -9,7 +9,7 @@ use Rattle.clk_trace.specs.RightReadings.{HasRightReadings}
 use Rattle.clk_trace.specs.WordHistory.{all_steps, steps_on}
 use Rattle.clk_trace.specs.LegalHistory.{NamesLastStamps, IsLegalHistory}
 use Rattle.clk_trace.specs.SeenBefore.{NeverFalls}
-use Rattle.clk_trace.specs.declared.trace.Mode.TheVariants.{PerCpu}
+use Rattle.clk_words.specs.declared.opening.Mode.TheVariants.{PerCpu}
 use Rattle.clk_trace.specs.declared.trace.StableStamp.{StableStamp}
 use Rattle.clk_trace.specs.declared.trace.Trace.{Trace}
 

@@ -7,8 +7,8 @@ use Rattle.clk_machine.specs.declared.reading.RawReading.{RawReading}
 use Rattle.clk_trace.specs.declared.event.Event.{Event}
 use Rattle.clk_trace.specs.declared.event.EventKind.{EventKind}
 use Rattle.clk_trace.specs.declared.event.EventKind.TheVariants.{Local, Stamp, Pause}
-use Rattle.clk_trace.specs.declared.trace.Mode.{Mode}
-use Rattle.clk_trace.specs.declared.trace.Mode.TheVariants.{Stable, PerCpu}
+use Rattle.clk_words.specs.declared.opening.Mode.{Mode}
+use Rattle.clk_words.specs.declared.opening.Mode.TheVariants.{Stable, PerCpu}
 use Rattle.clk_trace.specs.declared.trace.StableStamp.{StableStamp}
 use Rattle.clk_trace.specs.declared.trace.HistoryStep.{HistoryStep}
 use Rattle.clk_trace.specs.declared.trace.Trace.{Trace}

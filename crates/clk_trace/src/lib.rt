@@ -16,5 +16,5 @@ mod write;
 pub use event::{Event, EventKind};
 pub use out::WriteFault;
 pub use sink::{Failed, Sink};
-pub use trace::{HistoryStep, Mode, StableStamp, Trace};
+pub use trace::{HistoryStep, StableStamp, Trace};
 pub use write::write_trace;

@@ -3,11 +3,12 @@ ghost use Rattle.std.specs.Prelude.{◌≡◌, [], ◌∷◌, length, IfOk};
 use crate::event::{Event, EventKind};
 use crate::out::WriteFault;
 use crate::sink::{Failed, Sink};
-use crate::trace::{HistoryStep, Mode, StableStamp, Trace};
+use crate::trace::{HistoryStep, StableStamp, Trace};
 use crate::write::write_trace;
 use clk_base::raised;
 use clk_machine::RawReading;
 use clk_num::List;
+use clk_words::Mode;
 use std::alloc::{AllocError, Global};
 use std::test::Fail;
 

@@ -1,13 +1,7 @@
 use crate::event::Event;
 use clk_machine::RawReading;
 use clk_num::List;
-
-/// How the scheduler clock runs: on the stable counter, or on per-CPU clock words.
-#[derive(Clone, Copy, PartialEq, Eq, Debug)]
-pub enum Mode {
-    Stable,
-    PerCpu,
-}
+use clk_words::Mode;
 
 /// A stamp of the boot: the ticket and value of monotonic time in ns, the raw reading after it, and the offset that
 /// takes monotonic time to the scheduler clock.

@@ -9,8 +9,9 @@ use crate::event::{Event, EventKind};
 use crate::out::Part::{Name, Signed, Unsigned};
 use crate::out::{Out, WriteFault};
 use crate::sink::Sink;
-use crate::trace::{HistoryStep, Mode, StableStamp, Trace};
+use crate::trace::{HistoryStep, StableStamp, Trace};
 use clk_num::List;
+use clk_words::Mode;
 
 /// Writes the trace's text into a sink, and takes no memory. Each thread must have its CPU. The error is a write that
 /// failed; then the sink took a beginning of the text.

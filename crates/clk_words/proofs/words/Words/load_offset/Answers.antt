@@ -1,0 +1,8 @@
+use Rattle.std.proofs.Common.{sym, ap, ◌∙◌, rules, to_z-of_z, FitsSigned, w64}
+use Rattle.clk_words.specs.Held.{Place}
+use Rattle.clk_words.proofs.words.Words.load_offset.Goals as goal
+
+pub returns-clause-value : goal.returns-clause-value
+returns-clause-value c =
+    let fits : FitsSigned w64 c.self.inside.offset = search rules in
+    rw (to_z-of_z fits) (c.self.invariant.offset_is ∙ ap (λ (p : Place). p.start.opening.offset) (c.self.view_is ∙ sym c.requires.own))

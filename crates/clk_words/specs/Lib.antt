@@ -1,0 +1,16 @@
+pub mod Kinds
+pub mod Targets
+pub mod Fronts
+pub mod Histories
+pub mod Bounds
+pub mod Parts
+pub mod Rights
+pub mod Views
+pub mod Kept
+pub mod Knowing
+pub mod Told
+pub mod Held
+pub mod Seated
+pub mod FirstWords
+pub mod Calls
+pub mod Laws

@@ -1,0 +1,23 @@
+ghost use Rattle.clk_words.specs.Laws.{WordsRise, HeldWasPut, StepsAreChains, EachFollows};
+
+/// As a history goes on, no clock word falls. So a word that is loaded again holds at least what it held before.
+pub fn words_rise()
+    ensures { WordsRise }
+{}
+
+/// What a clock word has held is its opening or the new value of a step on it. So the value that a remote reading names
+/// is the opening of the other word or was put there earlier.
+pub fn held_was_put()
+    ensures { HeldWasPut }
+{}
+
+/// On each clock word the steps of a history go from the opening on, each from where the one before it ended.
+pub fn steps_are_chains()
+    ensures { StepsAreChains }
+{}
+
+/// Each step of a history found the value that the steps before it leave, raised it to its target, and names values that
+/// were there.
+pub fn each_follows()
+    ensures { EachFollows }
+{}

@@ -1,0 +1,40 @@
+//! The words that the CPUs' clocks share: for each CPU its clock, and the two values of its last tick's stamp.
+//!
+//! A CPU's clock word only rises. A caller loads the words that it needs, computes where the clock should be, and puts that
+//! by one exchange, as Linux 6.1 does in `kernel/sched/clock.c`: `sched_clock_local` for its own CPU's word, and
+//! `sched_clock_remote` for the lower of two words. The owner of a CPU stamps it at each tick, as `sched_clock_tick` does.
+//!
+//! It promises one history of all steps on all clock words: each step found what the one before it on its word left, raised
+//! it to its target, and stands there once. What a seat has seen begins that history, and seats that meet have seen parts
+//! of the same one. A reader that is caught half-way through a stamp gets a GTOD that is not older than its raw value.
+//!
+//! It promises no order between seats that never meet, and no progress: a lost exchange is the caller's to try again.
+//!
+//! How it works: the words are a table whose rule (`specs/Kept.antt`) ties them to what all seats know, and each call is
+//! one atomic step that keeps it. A contract sees a seat as a `Held`, whose `View` says what the seat knows.
+#![tactic(auto)]
+
+mod closed;
+mod kind;
+mod laws;
+mod loads;
+mod opening;
+mod puts;
+mod rule;
+mod seat;
+mod seats;
+mod stamps;
+mod step;
+#[cfg(test)]
+mod tests;
+mod view;
+mod words;
+
+pub use closed::Closed;
+pub use kind::SeatKind;
+pub use laws::{each_follows, held_was_put, steps_are_chains, words_rise};
+pub use opening::{Mode, Opening, Start};
+pub use seat::Seat;
+pub use step::{Put, Step, Why};
+pub use view::{Load, ModeView, Name, PairView, Part, View};
+pub use words::Words;

@@ -1,0 +1,60 @@
+//! The loads, each of one word.
+ghost use Rattle.std.specs.Prelude.{◌≡◌, ◌<◌};
+ghost use Rattle.clk_words.specs.Kinds.{cpu_of};
+ghost use Rattle.clk_words.specs.Knowing.{HasFoundPerCpu, IsReading};
+ghost use Rattle.clk_words.specs.Held.{place_of};
+ghost use Rattle.clk_words.specs.Told.{Loads, FindsGtod, FindsRaw};
+
+use crate::rule::{ClockLoad, GtodLoad, RawLoad};
+use crate::seat::Seat;
+use crate::words::Words;
+use clk_num::value_of;
+
+impl Words {
+    /// The value of the clock word of CPU `w`, in ns. One load, which takes no memory and does not wait.
+    pub fn load_clock(&self, seat: &mut Seat, w: u32) -> i64
+        requires own { place_of seat.old ≡ self.now }
+        requires word { w < self.now.start.cpus }
+        ensures own { place_of seat.new ≡ self.now }
+        ensures loads { Loads seat.old.view w result seat.new.view }
+    {
+        let word = w as usize;
+        value_of(self.table.shared.load::<ClockLoad>(&mut seat.at, word))
+    }
+
+    /// The GTOD of the last stamp of the seat's CPU, in ns. One load, which takes no memory and does not wait.
+    pub fn load_gtod(&self, seat: &mut Seat) -> i64
+        requires own { place_of seat.old ≡ self.now }
+        requires found { HasFoundPerCpu seat.old.view }
+        requires reading { IsReading seat.old.view.kind }
+        ensures own { place_of seat.new ≡ self.now }
+        ensures finds { FindsGtod seat.old.view (cpu_of seat.old.view.kind) result seat.new.view }
+    {
+        let word = self.gtod_word(seat.cpu());
+        value_of(self.table.shared.load::<GtodLoad>(&mut seat.at, word))
+    }
+
+    /// The raw value of the last stamp of the seat's CPU, in ns. One load, which takes no memory and does not wait.
+    pub fn load_raw(&self, seat: &mut Seat) -> i64
+        requires own { place_of seat.old ≡ self.now }
+        requires found { HasFoundPerCpu seat.old.view }
+        requires reading { IsReading seat.old.view.kind }
+        ensures own { place_of seat.new ≡ self.now }
+        ensures finds { FindsRaw seat.old.view (cpu_of seat.old.view.kind) result seat.new.view }
+    {
+        let word = self.raw_word(seat.cpu());
+        value_of(self.table.shared.load::<RawLoad>(&mut seat.at, word))
+    }
+
+    /// The offset between GTOD and the per-CPU clocks, in ns, which does not change. It makes no step.
+    pub fn load_offset(&self, seat: &mut Seat) -> i64
+        requires own { place_of seat.old ≡ self.now }
+        requires found { HasFoundPerCpu seat.old.view }
+        requires reading { IsReading seat.old.view.kind }
+        ensures seat { seat.new ≡ seat.old }
+        ensures value { result ≡ seat.old.view.start.opening.offset }
+    {
+        let _ = seat;
+        self.offset
+    }
+}

@@ -1,0 +1,33 @@
+/// Whether one clock serves all CPUs, or each CPU has a word of its own: what Linux keeps in `__sched_clock_stable`.
+#[derive(Clone, Copy, PartialEq, Eq, Debug)]
+pub enum Mode {
+    /// The raw clock is trusted: a reading is the raw clock and an offset.
+    Stable,
+    /// Each CPU's word is raised by its readings.
+    PerCpu,
+}
+
+/// What the words begin with, in ns. Each clock word begins at `tick_gtod + offset`. The names are those of Linux's
+/// `struct sched_clock_data`; `offset` is its `__gtod_offset`.
+#[derive(Clone, Copy, PartialEq, Eq, Debug)]
+pub struct Opening {
+    /// Whether the clock begins stable.
+    pub mode: Mode,
+    /// What is added to the monotonic time, within 2^59 of 0.
+    pub offset: i64,
+    /// The monotonic time at the last boot stamp, 0 to 2^41.
+    pub tick_gtod: i64,
+    /// The raw clock at the last boot stamp, within 2^59 of 0.
+    pub tick_raw: i64,
+}
+
+/// What is fixed when the words are made.
+#[derive(Clone, Copy, PartialEq, Eq, Debug)]
+pub struct Start {
+    /// How many CPUs there are, at least one.
+    pub cpus: u32,
+    /// The length of a tick, 1 to 2^30 ns.
+    pub tick: i64,
+    /// What the words begin with.
+    pub opening: Opening,
+}

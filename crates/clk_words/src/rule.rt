@@ -1,0 +1,116 @@
+//! The rule over the words and all views, and what each step tells.
+use crate::kind::SeatKind;
+use crate::opening::Start;
+use crate::step::Step;
+use crate::view::View;
+use atomic_table::{Join, Play, Split, TableRule};
+use std::marker::{Brand, PhantomData};
+
+pub struct OneHistory;
+
+impl TableRule<Step, View, Start> for OneHistory {
+    ghost use Rattle.clk_words.specs.Kept.{Kept};
+    ghost use Rattle.clk_words.specs.Views.{first_view};
+
+    ghost holds = { Kept };
+
+    ghost first = { first_view };
+}
+
+// A load of a clock word.
+pub(crate) struct ClockLoad;
+
+impl Play<Step, View> for ClockLoad {
+    ghost use Rattle.clk_words.specs.Told.{LoadedClock};
+
+    ghost then = { LoadedClock };
+}
+
+// An exchange of a clock word, which is told the step that it makes.
+pub(crate) struct Exchange;
+
+impl Play<Step, View> for Exchange {
+    ghost use Rattle.clk_words.specs.Told.{Exchanged};
+
+    ghost then = { Exchanged };
+}
+
+// A load of the GTOD of the seat's CPU.
+pub(crate) struct GtodLoad;
+
+impl Play<Step, View> for GtodLoad {
+    ghost use Rattle.clk_words.specs.Told.{LoadedGtod};
+
+    ghost then = { LoadedGtod };
+}
+
+// A load of the raw value of the seat's CPU.
+pub(crate) struct RawLoad;
+
+impl Play<Step, View> for RawLoad {
+    ghost use Rattle.clk_words.specs.Told.{LoadedRaw};
+
+    ghost then = { LoadedRaw };
+}
+
+// The owner's store of a GTOD.
+pub(crate) struct GtodStore;
+
+impl Play<Step, View> for GtodStore {
+    ghost use Rattle.clk_words.specs.Told.{StoredGtod};
+
+    ghost then = { StoredGtod };
+}
+
+// The owner's store of a raw value.
+pub(crate) struct RawStore;
+
+impl Play<Step, View> for RawStore {
+    ghost use Rattle.clk_words.specs.Told.{StoredRaw};
+
+    ghost then = { StoredRaw };
+}
+
+// A join tells nothing of its own, so this load tells how what was kept stands to what each side had.
+pub(crate) struct Meet;
+
+impl Play<Step, View> for Meet {
+    ghost use Rattle.clk_words.specs.Told.{Met};
+
+    ghost then = { Met };
+}
+
+// The kind that a split gives. Its caller picks it, since a split has no argument of its own.
+pub(crate) trait Gift {
+    ghost use Rattle.clk_words.specs.declared.kind.SeatKind.{SeatKind};
+
+    ghost kind: { SeatKind };
+}
+
+impl Gift for Brand {
+    ghost use Rattle.clk_words.specs.declared.kind.SeatKind.TheVariants.{Watch};
+
+    ghost kind = { Watch };
+}
+
+pub(crate) struct Give<G> {
+    gift: PhantomData<G>,
+}
+
+impl<G: Gift> Split<View> for Give<G> {
+    ghost use Rattle.clk_words.specs.Views.{giver_view, given_view};
+
+    ghost left = { giver_view G.kind };
+
+    ghost right = { given_view G.kind };
+}
+
+pub(crate) struct Glue;
+
+impl Join<View> for Glue {
+    ghost use Rattle.clk_words.specs.Views.{joint_view, spent_view};
+
+    ghost both = { joint_view };
+
+    ghost spent = { spent_view };
+}
