@@ -1,4 +1,8 @@
 pub mod Lookup
-pub mod Spelling
-pub mod Counting
 pub mod Reading
+pub mod Digits
+pub mod Loops
+pub mod Pairs
+pub mod ReaderWords
+pub mod Form
+pub mod Spelling

@@ -1,99 +1,167 @@
--- A script's items spell its words and no others.
-use Rattle.std.proofs.Common.{◌≡◌, ℕ, zero, suc, ◌<◌, ◌≤◌, ◌+◌, ◌^◌, List, [], ◌∷◌, ◌++◌, length, get_or, take, drop, Option, Some, codes, refl, sym, ap, subst, ◌∙◌, arith}
-use Rattle.std.specs.Fmt.{decimal, signed_decimal}
-use Rattle.std.specs.List.{All, AllByRecursion}
-use Rattle.std.proofs.lemmas.Fmt.{decimal_injective}
-use Rattle.std.proofs.lemmas.List.{take_more}
-use Rattle.std.proofs.lemmas.List.Elements.{recursion_from_All}
-use Rattle.toml.specs.Data.{Data, string, array, table, Items, item, push_item, Members, as_table}
-use Rattle.toml.specs.View.{view, items_view}
-use Rattle.toml.specs.declared.value.Value.{Value}
-use Rattle.toml.proofs.Views.{items_view-push}
-use Rattle.clk_machine.specs.Plan.{Plan, IsInRange}
+-- A text is a script word exactly where it is that word's spelling.
+use Rattle.std.proofs.Common.{◌≡◌, ℕ, ◌<◌, ◌^◌, pos, Bool, true, false, not, ◌||◌, leb, eqb, List, ◌++◌, length, get_or, take, drop, Option, Some, None, option_map, codes, refl, sym, ap, subst, ◌∙◌, inl, inr, rules, arith}
+use Rattle.std.specs.Option.{option_or}
+use Rattle.std.specs.List.{list_all, fold}
+use Rattle.std.specs.Str.{bytes_eq}
+use Rattle.std.specs.Fmt.{decimal}
+use Rattle.std.proofs.lemmas.List.{take-append-drop}
+use Rattle.std.proofs.lemmas.Bool.{cases_Bool}
+use Rattle.std.proofs.lemmas.Bool.Decides.{nat_tests}
+use Rattle.std.proofs.lemmas.Slice.Eq.{bytes_eq-Decides}
+use Rattle.std.proofs.lemmas.Str.Parse.{IsNumeralModel, numerals_by_fold, digits_value_short}
+use Rattle.std.proofs.lemmas.Fmt.{decimal_digit, decimal_nonempty, length-decimal-le, first_decimal, digits_decimal, digits_value-decimal, decimal-digits_value}
 use Rattle.clk_machine.specs.declared.script.Word.{Word}
-use Rattle.clk_machine.specs.declared.script.Word.TheVariants.{Local, Tick, Pause}
-use Rattle.clk_file.specs.Parts.{SpellsString, SpellsAll}
-use Rattle.clk_file.specs.Plain.{spelling, script_of, cpus_of, Describes}
-use Rattle.clk_file.specs.Tables.{sole_member, sole_item}
+use Rattle.clk_machine.specs.declared.script.Word.TheVariants.{Local, Remote, Tick, Idle, Update, Pause}
+use Rattle.clk_machine.specs.Plan.{count_of}
+use Rattle.clk_file.specs.Words.{is_digit, with_digit, is_number, number_of, begins_with, number_after, word_of}
+use Rattle.clk_file.specs.Laws.{spelling, HasSpelling}
+use Rattle.clk_file.proofs.Digits.{number-parts}
 
-first_differs : (xs ys : List ℕ) → xs ≡ ys → get_or xs 0 0 ≡ get_or ys 0 0
-first_differs xs ys e = ap (λ zs. get_or zs 0 0) e
+own : IsNumeralModel (λ ds. list_all is_digit ds ≡ true) (fold with_digit 0)
+own = numerals_by_fold (λ ds. list_all is_digit ds ≡ true) (search rules) (λ n ds. fold with_digit n ds) (search rules)
 
-counts-injective : (m n : ℕ) → m ≤ 2 ^ 24 → n ≤ 2 ^ 24 → decimal m ≡ decimal n → m ≡ n
-counts-injective m n low high e = decimal_injective m n (omega arith) (omega arith) e
+-- ---- numbers
 
-pub spelling-injective : (v w : Word) → IsInRange v → IsInRange w → spelling v ≡ spelling w → v ≡ w
-spelling-injective Local Local p q e = refl
-spelling-injective Local Tick p q e = absurd (omega (arith, first_differs _ _ e))
-spelling-injective Local (Pause n) p q e = absurd (omega (arith, first_differs _ _ e))
-spelling-injective Tick Local p q e = absurd (omega (arith, first_differs _ _ e))
-spelling-injective Tick Tick p q e = refl
-spelling-injective Tick (Pause n) p q e = absurd (omega (arith, first_differs _ _ e))
-spelling-injective (Pause m) Local p q e = absurd (omega (arith, first_differs _ _ e))
-spelling-injective (Pause m) Tick p q e = absurd (omega (arith, first_differs _ _ e))
-spelling-injective (Pause m) (Pause n) (a, mis, alow, ahigh) (b, nis, blow, bhigh) e =
-    let same : signed_decimal m ≡ signed_decimal n = ap (drop 6) e in
-    let counts : a ≡ b = counts-injective a b ahigh bhigh (rw (mis, nis) at same) in
-    cc
+abbrev IsSmall : ℕ → Type 0
+IsSmall n = n < 10 ^ 9
 
-pub script_of-injective : (vs ws : List Word) → AllByRecursion IsInRange vs → AllByRecursion IsInRange ws → script_of vs ≡ script_of ws → vs ≡ ws
-script_of-injective [] [] p q e = refl
-script_of-injective [] (w ∷ ws) p q e = absurd (cc)
-script_of-injective (v ∷ vs) [] p q e = absurd (cc)
-script_of-injective (v ∷ vs) (w ∷ ws) p q e =
-    let here : spelling v ≡ spelling w = cc in
-    let more : script_of vs ≡ script_of ws = cc in
-    let word = spelling-injective v w p.0 q.0 here in
-    let words = script_of-injective vs ws p.1 q.1 more in
-    cc
+one_digit : (n : ℕ) → n < 10 → eqb (length (decimal n)) 1 ≡ true
+one_digit n h = rw (decimal_digit n h)
 
-pub words-from_cpu : (vs ws : List Word) → All IsInRange vs → All IsInRange ws → cpus_of (script_of vs) ≡ cpus_of (script_of ws) → vs ≡ ws
-words-from_cpu vs ws p q e =
-    script_of-injective vs ws (recursion_from_All IsInRange vs p) (recursion_from_All IsInRange ws q) (cc)
+first_passes : (n : ℕ) → IsSmall n → (eqb (length (decimal n)) 1 || not (eqb (get_or (decimal n) 0 0) 48)) ≡ true
+first_passes n h = go (leb n 9) refl
+  where
+    go : (b : Bool) → leb n 9 ≡ b → (eqb (length (decimal n)) 1 || not (eqb (get_or (decimal n) 0 0) 48)) ≡ true
+    go true low = rw (one_digit n (grind (arith, nat_tests)))
+    go false high =
+        let some : 0 < n = grind (arith, nat_tests) in
+        let first = first_decimal n some (omega arith) in
+        grind (arith, nat_tests)
 
-abbrev plan : ℕ → ℕ → List Word → Plan
-plan step tick words = record { step = step; tick = tick; words = words }
+pub number_of-decimal : (n : ℕ) → IsSmall n → number_of (decimal n) ≡ Some n
+unfolding number_of is_number
+number_of-decimal n h =
+    let some : leb 1 (length (decimal n)) ≡ true = grind (arith, nat_tests, decimal_nonempty n (omega arith)) in
+    let few : leb (length (decimal n)) 9 ≡ true = grind (arith, nat_tests, length-decimal-le 9 n (omega arith) h (omega arith)) in
+    rw (some, few, digits_decimal own n (omega arith), first_passes n h, digits_value-decimal own n (omega arith))
 
-same_plan : (m n : Plan) → m.step ≡ n.step → m.tick ≡ n.tick → m.words ≡ n.words → m ≡ n
-same_plan m n a b c = ap (λ s. plan s m.tick m.words) a ∙ ap (λ t. plan n.step t m.words) b ∙ ap (plan n.step n.tick) c
+pub record IsDecimal (text : List ℕ) (n : ℕ) : Type 0 where
+  pub written : text ≡ decimal n
+  pub small : IsSmall n
 
-pub described-once : (t : Members) (m n : Plan) → Describes t m → Describes t n → m ≡ n
-described-once t m n d e =
-    let step : m.step ≡ n.step = cc in
-    let tick : m.tick ≡ n.tick = cc in
-    let cpus : cpus_of (script_of m.words) ≡ cpus_of (script_of n.words) = cc in
-    same_plan m n step tick (words-from_cpu m.words n.words d.limits.words_in_range e.limits.words_in_range cpus)
+pub decimal-number_of : (text : List ℕ) (n : ℕ) → number_of text ≡ Some n → IsDecimal text n
+unfolding number_of
+decimal-number_of text n h =
+    elim (cases_Bool (is_number text)) [
+      | inl is ↦
+          let value : fold with_digit 0 text ≡ n = cc (rw is at h) in
+          let number = number-parts text is in
+          let small : fold with_digit 0 text < 10 ^ 9 = digits_value_short own text 9 number.digits number.short in
+          record {
+            written = sym (decimal-digits_value own text number.digits (omega arith) number.first (omega arith)) ∙ ap decimal value;
+            small = subst (λ v. v < 10 ^ 9) value small;
+          }
+      | inr other ↦ absurd (cc (rw other at h))
+    ]
 
--- one more word at the end
-script_of-push : (ws : List Word) (w : Word) → script_of (ws ++ w ∷ []) ≡ push_item (script_of ws) (string (spelling w))
-script_of-push [] w = refl
-script_of-push (v ∷ ws) w = ap (item (string (spelling v))) (script_of-push ws w)
+-- ---- a name and a number
 
-pub script_more : (vs : List Value) (i : ℕ) (d : Value) (ws : List Word) (w : Word) → i < length vs → items_view (take i vs) ≡ script_of ws
-    → view (get_or vs i d) ≡ string (spelling w) → items_view (take (i + 1) vs) ≡ script_of (ws ++ w ∷ [])
-script_more vs i d ws w low so_far here =
-    rw (take_more vs i d low, items_view-push, script_of-push, so_far, here)
+pub number_after-is : (name text : List ℕ) (n : ℕ) → number_after name text ≡ Some n → (text ≡ name ++ decimal n) × IsSmall n
+unfolding number_after
+number_after-is name text n h =
+    elim (cases_Bool (begins_with name text)) [
+      | inl begins ↦
+          let front : take (length name) text ≡ name = (bytes_eq-Decides (take (length name) text) name).0 begins in
+          let number = decimal-number_of (drop (length name) text) n (rw begins at h) in
+          (sym (take-append-drop (length name) text) ∙ ap (λ xs. xs ++ drop (length name) text) front ∙ ap (λ xs. name ++ xs) number.written, number.small)
+      | inr other ↦ absurd (cc (rw other at h))
+    ]
 
--- each item of a script spells a word, so an item that spells none stands in no script
-word_within : (vs : List Value) (i : ℕ) (d : Value) (ws : List Word) → i < length vs → items_view vs ≡ script_of ws → AllByRecursion IsInRange ws
-    → (w : Word) × SpellsString (view (get_or vs i d)) w
-word_within [] i d ws low e p = absurd (omega arith)
-word_within (v ∷ vs) i d [] low e p = absurd (cc)
-word_within (v ∷ vs) zero d (w ∷ ws) low e p = (w, record { spelled = cc; range = p.0 })
-word_within (v ∷ vs) (suc i) d (w ∷ ws) low e p = word_within vs i d ws (omega arith) (cc) p.1
+-- ---- words
 
-pub no_script : (vs : List Value) (i : ℕ) (v : Value) (ws : List Word) → i < length vs → v ≡ get_or vs i v → ((w : Word) → ¬ SpellsString (view v) w)
-    → ¬ SpellsAll (items_view vs) ws
-no_script vs i v ws low is none = λ all.
-    let (w, found) = word_within vs i v ws low all.spelled (recursion_from_All IsInRange ws all.range) in
-    let P : Value → Type 0 = λ x. SpellsString (view x) w in
-    none w (subst P (sym is) found)
+abbrev HasWord : List ℕ → Word → Type 0
+HasWord text w = (text ≡ spelling w) × HasSpelling w
 
--- the script of the one CPU, where the array, its item and the item's table are known
-pub cpu_holds : (found : Option Data) (cpus : Items) (cpu : Data) (t : Members) (script : Items) → found ≡ Some (array cpus) → cpus ≡ sole_item cpu
-    → Some t ≡ as_table cpu → found ≡ Some (cpus_of script) → t ≡ sole_member (codes "script") (array script)
-cpu_holds found cpus cpu t script a b c d =
-    let whole : array cpus ≡ cpus_of script = cc in
-    let is : cpu ≡ table (sole_member (codes "script") (array script)) = cc in
-    let some = rw is at c in
-    cc
+numbered : (o p : Option ℕ) (text : List ℕ) (w : Word)
+    → ((n : ℕ) → o ≡ Some n → (text ≡ codes "remote " ++ decimal n) × IsSmall n)
+    → ((n : ℕ) → p ≡ Some n → (text ≡ codes "pause " ++ decimal n) × IsSmall n)
+    → option_or (option_map (λ cpu. Remote (pos cpu)) o) (option_map (λ tickets. Pause (pos tickets)) p) ≡ Some w → HasWord text w
+numbered (Some n) p text w remote pause h =
+    let (written, small) = remote n refl in
+    let same : Remote (pos n) ≡ w = cc in
+    subst (HasWord text) same (written, (refl, omega arith, omega arith))
+numbered None (Some n) text w remote pause h =
+    let (written, small) = pause n refl in
+    let same : Pause (pos n) ≡ w = cc in
+    subst (HasWord text) same (written, (refl, omega arith, omega arith))
+numbered None None text w remote pause h = absurd (cc)
+
+pub spelling-word_of : (text : List ℕ) (w : Word) → word_of text ≡ Some w → HasWord text w
+unfolding word_of
+spelling-word_of text w h =
+    elim (cases_Bool (bytes_eq text (codes "local"))) [
+      | inl same ↦
+          let some : Some Local ≡ Some w = rw same at h in
+          let is : Local ≡ w = cc in
+          subst (HasWord text) is ((bytes_eq-Decides text (codes "local")).0 same, tt)
+      | inr no_local ↦
+          let h1 = rw no_local at h in
+          elim (cases_Bool (bytes_eq text (codes "tick"))) [
+            | inl same ↦
+                let some : Some Tick ≡ Some w = rw same at h1 in
+                let is : Tick ≡ w = cc in
+                subst (HasWord text) is ((bytes_eq-Decides text (codes "tick")).0 same, tt)
+            | inr no_tick ↦
+                let h2 = rw no_tick at h1 in
+                elim (cases_Bool (bytes_eq text (codes "idle"))) [
+                  | inl same ↦
+                      let some : Some Idle ≡ Some w = rw same at h2 in
+                      let is : Idle ≡ w = cc in
+                      subst (HasWord text) is ((bytes_eq-Decides text (codes "idle")).0 same, tt)
+                  | inr no_idle ↦
+                      let h3 = rw no_idle at h2 in
+                      elim (cases_Bool (bytes_eq text (codes "update"))) [
+                        | inl same ↦
+                            let some : Some Update ≡ Some w = rw same at h3 in
+                            let is : Update ≡ w = cc in
+                            subst (HasWord text) is ((bytes_eq-Decides text (codes "update")).0 same, tt)
+                        | inr no_update ↦
+                            let h4 = rw no_update at h3 in
+                            numbered (number_after (codes "remote ") text) (number_after (codes "pause ") text) text w
+                            (number_after-is (codes "remote ") text) (number_after-is (codes "pause ") text) h4
+                      ]
+                ]
+          ]
+    ]
+
+remote_after : (n : ℕ) → IsSmall n → number_after (codes "remote ") (codes "remote " ++ decimal n) ≡ Some n
+unfolding number_after
+remote_after n h = number_of-decimal n h
+
+pause_after : (n : ℕ) → IsSmall n → number_after (codes "pause ") (codes "pause " ++ decimal n) ≡ Some n
+unfolding number_after
+pause_after n h = number_of-decimal n h
+
+no_remote_after : (n : ℕ) → number_after (codes "remote ") (codes "pause " ++ decimal n) ≡ None
+unfolding number_after
+no_remote_after n = refl
+
+word_of-remote : (n : ℕ) → IsSmall n → word_of (codes "remote " ++ decimal n) ≡ Some (Remote (pos n))
+unfolding word_of
+word_of-remote n h = rw (remote_after n h)
+
+word_of-pause : (n : ℕ) → IsSmall n → word_of (codes "pause " ++ decimal n) ≡ Some (Pause (pos n))
+unfolding word_of
+word_of-pause n h = rw (no_remote_after n, pause_after n h)
+
+word_of-spelling : (w : Word) → HasSpelling w → word_of (spelling w) ≡ Some w
+unfolding word_of
+word_of-spelling Local h = refl
+word_of-spelling Tick h = refl
+word_of-spelling Idle h = refl
+word_of-spelling Update h = refl
+word_of-spelling (Remote z) (is, low, high) = rw is (word_of-remote (count_of z) (omega arith))
+word_of-spelling (Pause z) (is, low, high) = rw is (word_of-pause (count_of z) (omega arith))
+
+pub words_spelled : (text : List ℕ) (w : Word) → ((word_of text ≡ Some w) → HasWord text w) × (HasWord text w → word_of text ≡ Some w)
+words_spelled text w = (spelling-word_of text w, λ h. rw h.0 (word_of-spelling w h.1))

@@ -1,6 +1,8 @@
-pub mod Plain
 pub mod Document
-pub mod Laws
-pub mod Tables
-pub mod Found
+pub mod Words
+pub mod Keys
+pub mod Shape
+pub mod Described
+pub mod Acceptance
 pub mod Parts
+pub mod Laws

@@ -1,45 +1,74 @@
 -- What the parts of the reader answer. No public contract cites these.
-use Rattle.std.specs.Prelude.{◌≡◌, ℕ, ◌≤◌, ◌^◌, pos, List, codes, length, Some}
-use Rattle.std.specs.List.{All}
-use Rattle.std.specs.Fmt.{decimal}
-use Rattle.toml.specs.Data.{Data, string, integer, Items, Members, get_member}
-use Rattle.clk_machine.specs.Plan.{IsInRange, tickets_needed}
-use Rattle.clk_machine.specs.declared.script.Word.{Word}
-use Rattle.clk_file.specs.Plain.{spelling, script_of, cpus_of}
+use Rattle.std.specs.Prelude.{◌≡◌, ℕ, ◌+◌, pos, false, List, [], ◌∷◌, ◌++◌, codes, Some}
+use Rattle.toml.specs.Data.{Members, as_str, as_integer, as_array, as_table}
+use Rattle.clk_base.specs.First.{first, each}
+use Rattle.clk_file.specs.declared.words.Thread.{Thread}
+use Rattle.clk_file.specs.declared.tables.Numbers.{Numbers}
+use Rattle.clk_file.specs.Keys.{Test, known_keys, required, optional, integer_or, flag_or, items_at, in_table, in_entry}
+use Rattle.clk_file.specs.Shape.{jump_test, word_test, reference_tests, bring_up_tests, watch_tests, own_keys, other_keys, other_tests, shape_tests}
+use Rattle.clk_file.specs.Described.{bits_in, nominal_khz_in}
+use Rattle.clk_file.specs.declared.error.TableError.{TableError}
+use Rattle.clk_file.specs.declared.error.FileError.{FileError}
+use Rattle.clk_file.specs.Acceptance.{version_test, of_table}
 
--- the text spells the word, which is in range
-pub record Spells (text : List ℕ) (word : Word) : Type 0 where
-  pub spelled : text ≡ spelling word
-  pub range : IsInRange word
+-- a list of jumps, and its pairs
+abbrev pub jumps_tests : ℕ → ℕ → Members → List Test
+jumps_tests row e t = optional as_array row e (codes "jumps") t ∷ each (jump_test row e) 1 (items_at (codes "jumps") t) ∷ []
 
--- the string spells the word, which is in range
-pub record SpellsString (d : Data) (word : Word) : Type 0 where
-  pub spelled : d ≡ string (spelling word)
-  pub range : IsInRange word
+-- the words of a script
+abbrev pub words_tests : Thread → ℕ → ℕ → Members → List Test
+words_tests thread row e t = optional as_array row e (codes "script") t ∷ each (word_test thread row e) 1 (items_at (codes "script") t) ∷ []
 
--- the items spell the words, which are in range
-pub record SpellsAll (items : Items) (words : List Word) : Type 0 where
-  pub spelled : items ≡ script_of words
-  pub range : All IsInRange words
+-- a script, whose row follows that of its repeat
+abbrev pub script_tests : Thread → ℕ → ℕ → Members → List Test
+script_tests thread row e t = optional as_integer row e (codes "repeat") t ∷ words_tests thread (row + 1) e t
 
--- the script of the one CPU spells the words, which are in range
-pub record SpellsCpu (t : Members) (words : List Word) : Type 0 where
-  pub spelled : get_member (codes "cpu") t ≡ Some (cpus_of (script_of words))
-  pub range : All IsInRange words
+-- the tables of an array, which must be there or may be missing
+abbrev pub required_entries : ℕ → List ℕ → (ℕ → Members → List Test) → Members → List Test
+required_entries row key tests t = required as_array row 0 key t ∷ each (in_entry row tests) 1 (items_at key t) ∷ []
 
--- the text is the count in decimal, which is in range
-pub record Counts (text : List ℕ) (count : ℕ) : Type 0 where
-  pub written : text ≡ decimal count
-  pub low : 1 ≤ count
-  pub high : count ≤ 2 ^ 24
+abbrev pub optional_entries : ℕ → List ℕ → (ℕ → Members → List Test) → Members → List Test
+optional_entries row key tests t = optional as_array row 0 key t ∷ each (in_entry row tests) 1 (items_at key t) ∷ []
 
--- the key holds the number, which is at least 1 and at most `most`
-pub record HoldsNumber (t : Members) (key : List ℕ) (most number : ℕ) : Type 0 where
-  pub value : get_member key t ≡ Some (integer (pos number))
-  pub low : 1 ≤ number
-  pub high : number ≤ most
+-- all that is tested before the ranges of the machine's numbers
+abbrev pub form_tests : Members → List Test
+form_tests t = shape_tests t ++ version_test t ∷ []
 
--- the words are few, and draw few tickets
-pub record IsShort (words : List Word) : Type 0 where
-  pub few_words : length words ≤ 2 ^ 16
-  pub few_tickets : tickets_needed words ≤ 2 ^ 24
+-- what a table's numbers are, by its rows 1 to 7
+pub record AreNumbers (t : Members) (n : Numbers) : Type 0 where
+  pub version : n.version ≡ integer_or (pos 0) (codes "version") t
+  pub cpus : n.cpus ≡ integer_or (pos 0) (codes "cpus") t
+  pub step : n.step ≡ integer_or (pos 0) (codes "step") t
+  pub tick : n.tick ≡ integer_or (pos 1000000) (codes "tick") t
+  pub bits : n.bits ≡ bits_in t
+  pub nominal_khz : n.nominal_khz ≡ nominal_khz_in t
+  pub stable : n.stable ≡ flag_or false (codes "stable") t
+
+-- tables that must be there, or may be missing, and the rows in them
+abbrev pub reference_rows : Members → List Test
+reference_rows t = required as_table 8 0 (codes "reference") t ∷ in_table reference_tests (codes "reference") t ∷ []
+
+abbrev pub bring_up_rows : Members → List Test
+bring_up_rows t = optional as_table 26 0 (codes "bringup") t ∷ in_table bring_up_tests (codes "bringup") t ∷ []
+
+abbrev pub watch_rows : Members → List Test
+watch_rows t = optional as_table 30 0 (codes "watchdog") t ∷ in_table watch_tests (codes "watchdog") t ∷ []
+
+-- the rows of a source behind `tsc`, which says which keys it has
+abbrev pub named_rows : List (List ℕ) → ℕ → Members → List Test
+named_rows keys e t =
+    known_keys 35 e keys t
+    ∷ optional as_str 36 e (codes "name") t
+    ∷ required as_integer 38 e (codes "rating") t
+    ∷ required as_integer 39 e (codes "margin") t
+    ∷ []
+
+abbrev pub own_rows : ℕ → Members → List Test
+own_rows e t = named_rows own_keys e t
+
+abbrev pub other_rows : ℕ → Members → List Test
+other_rows e t = named_rows other_keys e t ++ other_tests e t
+
+-- what a table is refused with before the ranges of its numbers
+abbrev pub IsRefusedForm : Members → FileError → Type 0
+IsRefusedForm t e = (r : TableError) × (first (form_tests t) ≡ Some r) × (e ≡ of_table r)

@@ -1,97 +1,261 @@
-ghost use Rattle.std.specs.Prelude.{◌≡◌, ◌↔◌, ◌≤◌, map, option_map, IsTrue};
-ghost use Rattle.toml.specs.Data.{get_member, integer, boolean, array, table as table_data};
-ghost use Rattle.toml.specs.View.{view, items_view, array_view, table_view};
-ghost use Rattle.clk_file.specs.Found.{Finds};
-ghost use Rattle.clk_file.specs.Tables.{HasOnly, sole_member, sole_item};
-ghost use Rattle.clk_file.specs.Parts.{HoldsNumber};
+//! The tests of a table's keys. Each keeps the first refusal, so that a later one changes nothing, and gives the value, or
+//! what stands for it where there is none.
+ghost use Rattle.std.specs.Prelude.{◌≡◌, ◌≤◌, pos, false, map, option_map, Some};
+ghost use Rattle.std.specs.Option.{option_or};
+ghost use Rattle.toml.specs.Data.{get_member, as_str, as_integer, as_bool, as_array, as_table};
+ghost use Rattle.toml.specs.View.{view, table_view};
+ghost use Rattle.clk_file.specs.Keys.{has_only, known_keys, required, optional, found, integer_or, flag_or, items_at, key_at as key_fault, value_at as value_fault};
 
+use crate::error::TableError;
+use clk_machine::Place;
 use toml::{Table, Value};
 
-/// Whether each key of the table is one of the names.
-pub(crate) fn has_only(table: &Table, names: &[&str]) -> bool
-    ensures { IsTrue result ↔ HasOnly (map (λ n. n.now) names.now) (table_view table.now) }
+/// Keeps the first refusal.
+pub(crate) fn refuse(refusal: &mut Option<TableError>, error: TableError)
+    ensures { refusal.new ≡ option_or refusal.old (Some error) }
 {
-    table.keys().all(|key| names.contains(&key.as_str()))
+    if refusal.is_none() {
+        *refusal = Some(error);
+    }
+}
+
+/// The refusal of a key.
+fn key_at(row: u32, entry: u32) -> TableError
+    ensures { result ≡ key_fault row entry }
+{
+    TableError::Key(Place {
+        row,
+        entry,
+        item: 0,
+    })
+}
+
+/// The refusal of a value.
+pub(crate) fn value_at(row: u32, entry: u32, item: u32) -> TableError
+    ensures { result ≡ value_fault row entry item }
+{
+    TableError::Value(Place { row, entry, item })
 }
 
 /// The value at a key.
-pub(crate) fn value_at<'a>(table: &'a Table, key: &str) -> Option<&'a Value>
+fn value_of<'a>(table: &'a Table, key: &str) -> Option<&'a Value>
     ensures { option_map (λ v. view v.now) result ≡ get_member key.now (table_view table.now) }
 {
     table.get(key)
 }
 
-/// Whether the key holds this integer.
-pub(crate) fn has_integer(table: &Table, key: &str, wanted: i64) -> bool
-    ensures { IsTrue result ↔ (get_member key.now (table_view table.now) ≡ Some (integer wanted)) }
+/// Whether each key of the table is one of the names.
+fn has_only(table: &Table, names: &[&str]) -> bool
+    ensures { result ≡ has_only (map (λ n. n.now) names.now) (table_view table.now) }
 {
-    match value_at(table, key) {
-        Some(value) => value.as_integer() == Some(wanted),
-        None => false,
+    table.keys().all(|key| names.contains(&key.as_str()))
+}
+
+/// The table at this row has no other keys.
+pub(crate) fn known_keys(
+    table: &Table,
+    names: &[&str],
+    row: u32,
+    entry: u32,
+    refusal: &mut Option<TableError>,
+)
+    requires { row ≤ 43 }
+    ensures { refusal.new ≡ option_or refusal.old (known_keys row entry (map (λ n. n.now) names.now) (table_view table.now)) }
+{
+    if !has_only(table, names) {
+        refuse(refusal, key_at(row + 100, entry));
     }
 }
 
-/// Whether the key holds this Boolean.
-pub(crate) fn has_bool(table: &Table, key: &str, wanted: bool) -> bool
-    ensures { IsTrue result ↔ (get_member key.now (table_view table.now) ≡ Some (boolean wanted)) }
+/// An integer that must be there.
+#[tactic(auto, unfolding(crate::specs::Keys::required, crate::specs::Keys::found))]
+pub(crate) fn integer(
+    table: &Table,
+    key: &str,
+    row: u32,
+    entry: u32,
+    refusal: &mut Option<TableError>,
+) -> i64
+    ensures test { refusal.new ≡ option_or refusal.old (required as_integer row entry key.now (table_view table.now)) }
+    ensures value { result ≡ integer_or (pos 0) key.now (table_view table.now) }
 {
-    match value_at(table, key) {
-        Some(value) => value.as_bool() == Some(wanted),
-        None => false,
+    let Some(value) = value_of(table, key) else {
+        refuse(refusal, key_at(row, entry));
+        return 0;
+    };
+    let Some(integer) = value.as_integer() else {
+        refuse(refusal, value_at(row, entry, 0));
+        return 0;
+    };
+    integer
+}
+
+/// An integer, or its default.
+#[tactic(auto, unfolding(crate::specs::Keys::optional, crate::specs::Keys::found))]
+pub(crate) fn integer_or(
+    table: &Table,
+    key: &str,
+    default: i64,
+    row: u32,
+    entry: u32,
+    refusal: &mut Option<TableError>,
+) -> i64
+    ensures test { refusal.new ≡ option_or refusal.old (optional as_integer row entry key.now (table_view table.now)) }
+    ensures value { result ≡ integer_or default key.now (table_view table.now) }
+{
+    let Some(value) = value_of(table, key) else {
+        return default;
+    };
+    let Some(integer) = value.as_integer() else {
+        refuse(refusal, value_at(row, entry, 0));
+        return default;
+    };
+    integer
+}
+
+/// A Boolean that must be there.
+#[tactic(auto, unfolding(crate::specs::Keys::required, crate::specs::Keys::found))]
+pub(crate) fn flag(
+    table: &Table,
+    key: &str,
+    row: u32,
+    entry: u32,
+    refusal: &mut Option<TableError>,
+) -> bool
+    ensures test { refusal.new ≡ option_or refusal.old (required as_bool row entry key.now (table_view table.now)) }
+    ensures value { result ≡ flag_or false key.now (table_view table.now) }
+{
+    let Some(value) = value_of(table, key) else {
+        refuse(refusal, key_at(row, entry));
+        return false;
+    };
+    let Some(flag) = value.as_bool() else {
+        refuse(refusal, value_at(row, entry, 0));
+        return false;
+    };
+    flag
+}
+
+/// A Boolean, or false.
+#[tactic(auto, unfolding(crate::specs::Keys::optional, crate::specs::Keys::found))]
+pub(crate) fn flag_or_false(
+    table: &Table,
+    key: &str,
+    row: u32,
+    entry: u32,
+    refusal: &mut Option<TableError>,
+) -> bool
+    ensures test { refusal.new ≡ option_or refusal.old (optional as_bool row entry key.now (table_view table.now)) }
+    ensures value { result ≡ flag_or false key.now (table_view table.now) }
+{
+    let Some(value) = value_of(table, key) else {
+        return false;
+    };
+    let Some(flag) = value.as_bool() else {
+        refuse(refusal, value_at(row, entry, 0));
+        return false;
+    };
+    flag
+}
+
+/// A string, which is not kept.
+#[tactic(auto, unfolding(crate::specs::Keys::optional))]
+pub(crate) fn string(
+    table: &Table,
+    key: &str,
+    row: u32,
+    entry: u32,
+    refusal: &mut Option<TableError>,
+)
+    ensures { refusal.new ≡ option_or refusal.old (optional as_str row entry key.now (table_view table.now)) }
+{
+    if let Some(value) = value_of(table, key) {
+        if !value.is_str() {
+            refuse(refusal, value_at(row, entry, 0));
+        }
     }
 }
 
-/// The number that the key holds, from 1 to `most`.
-pub(crate) fn number_at(table: &Table, key: &str, most: u32) -> Option<u32>
-    ensures { Finds result (HoldsNumber (table_view table.now) key.now most) }
+/// A table that must be there.
+#[tactic(auto, unfolding(crate::specs::Keys::required, crate::specs::Keys::found))]
+pub(crate) fn table<'a>(
+    table: &'a Table,
+    key: &str,
+    row: u32,
+    refusal: &mut Option<TableError>,
+) -> Option<&'a Table>
+    ensures test { refusal.new ≡ option_or refusal.old (required as_table row 0 key.now (table_view table.now)) }
+    ensures value { option_map (λ t. table_view t.now) result ≡ found as_table key.now (table_view table.now) }
 {
-    let value = value_at(table, key)?.as_integer()?;
-    let number = u32::try_from(value).ok()?;
-    if 1 <= number && number <= most {
-        Some(number)
-    } else {
-        None
+    let Some(value) = value_of(table, key) else {
+        refuse(refusal, key_at(row, 0));
+        return None;
+    };
+    let inner = value.as_table();
+    if inner.is_none() {
+        refuse(refusal, value_at(row, 0, 0));
     }
+    inner
 }
 
-/// The table that the key holds.
-pub(crate) fn table_at<'a>(table: &'a Table, key: &str) -> Option<&'a Table>
-    ensures { Finds (option_map (λ t. table_view t.now) result) (λ t. get_member key.now (table_view table.now) ≡ Some (table_data t)) }
+/// A table, if it is there.
+#[tactic(auto, unfolding(crate::specs::Keys::optional, crate::specs::Keys::found))]
+pub(crate) fn table_if_there<'a>(
+    table: &'a Table,
+    key: &str,
+    row: u32,
+    refusal: &mut Option<TableError>,
+) -> Option<&'a Table>
+    ensures test { refusal.new ≡ option_or refusal.old (optional as_table row 0 key.now (table_view table.now)) }
+    ensures value { option_map (λ t. table_view t.now) result ≡ found as_table key.now (table_view table.now) }
 {
-    match value_at(table, key) {
-        Some(value) => value.as_table(),
-        None => None,
+    let inner = value_of(table, key)?.as_table();
+    if inner.is_none() {
+        refuse(refusal, value_at(row, 0, 0));
     }
+    inner
 }
 
-/// The array that the key holds.
-pub(crate) fn array_at<'a>(table: &'a Table, key: &str) -> Option<&'a Vec<Value>>
-    ensures { Finds (option_map (λ v. array_view v.now) result) (λ ds. get_member key.now (table_view table.now) ≡ Some (array ds)) }
+/// The items of an array that must be there.
+#[tactic(auto, unfolding(crate::specs::Keys::required, crate::specs::Keys::found, crate::specs::Keys::items_at))]
+pub(crate) fn array<'a>(
+    table: &'a Table,
+    key: &str,
+    row: u32,
+    refusal: &mut Option<TableError>,
+) -> &'a [Value]
+    ensures test { refusal.new ≡ option_or refusal.old (required as_array row 0 key.now (table_view table.now)) }
+    ensures value { map view result.now ≡ items_at key.now (table_view table.now) }
 {
-    match value_at(table, key) {
-        Some(value) => value.as_array(),
-        None => None,
-    }
+    let Some(value) = value_of(table, key) else {
+        refuse(refusal, key_at(row, 0));
+        return &[];
+    };
+    let Some(values) = value.as_array() else {
+        refuse(refusal, value_at(row, 0, 0));
+        return &[];
+    };
+    values.as_slice()
 }
 
-/// The value of a table whose only key this is.
-pub(crate) fn only_value<'a>(table: &'a Table, key: &str) -> Option<&'a Value>
-    ensures { Finds (option_map (λ v. view v.now) result) (λ d. table_view table.now ≡ sole_member key.now d) }
+/// The items of an array, or none.
+#[tactic(auto, unfolding(crate::specs::Keys::optional, crate::specs::Keys::found, crate::specs::Keys::items_at))]
+pub(crate) fn array_or_empty<'a>(
+    table: &'a Table,
+    key: &str,
+    row: u32,
+    entry: u32,
+    refusal: &mut Option<TableError>,
+) -> &'a [Value]
+    ensures test { refusal.new ≡ option_or refusal.old (optional as_array row entry key.now (table_view table.now)) }
+    ensures value { map view result.now ≡ items_at key.now (table_view table.now) }
 {
-    if table.len() == 1 {
-        value_at(table, key)
-    } else {
-        None
-    }
-}
-
-/// The item of an array that has one.
-pub(crate) fn only_item(values: &[Value]) -> Option<&Value>
-    ensures { Finds (option_map (λ v. view v.now) result) (λ d. items_view values.now ≡ sole_item d) }
-{
-    if values.len() == 1 {
-        Some(&values[0])
-    } else {
-        None
-    }
+    let Some(value) = value_of(table, key) else {
+        return &[];
+    };
+    let Some(values) = value.as_array() else {
+        refuse(refusal, value_at(row, entry, 0));
+        return &[];
+    };
+    values.as_slice()
 }

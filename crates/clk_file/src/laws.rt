@@ -1,6 +1,7 @@
-ghost use Rattle.clk_file.specs.Laws.{DescribedOnce};
+ghost use Rattle.clk_file.specs.Laws.{WordsAreSpelled};
 
-/// A table describes at most one machine, so what a file describes is no choice of the reader's.
-pub fn described_once()
-    ensures { DescribedOnce }
+/// A string is a script word exactly where it is that word's spelling: its name, and behind one space its number in decimal
+/// of at most nine digits.
+pub fn words_are_spelled()
+    ensures { WordsAreSpelled }
 {}

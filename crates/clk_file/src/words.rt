@@ -1,61 +1,76 @@
-ghost use Rattle.std.specs.Prelude.{IfOk};
-ghost use Rattle.toml.specs.View.{view, items_view};
-ghost use Rattle.clk_file.specs.Found.{Finds};
-ghost use Rattle.clk_file.specs.Parts.{Counts, Spells, SpellsString, SpellsAll};
+ghost use Rattle.std.specs.Prelude.{◌≡◌};
+ghost use Rattle.clk_file.specs.Words.{is_number, number_of, number_after, word_of, word_in};
 
 use clk_machine::Word;
-use clk_num::List;
-use itoa::Buffer;
-use std::alloc::{AllocError, Global};
-use toml::Value;
 
-/// The most tickets that a pause may take.
-const MAX_PAUSE: u32 = 1 << 24;
+/// Whose script it is: a CPU's, or that of a reader, which makes readings and pauses alone.
+#[derive(Clone, Copy)]
+pub(crate) enum Thread {
+    Cpu,
+    Reader,
+}
 
-/// The words that the items of a script spell.
-pub(crate) fn words_of(alloc: Global, items: &[Value]) -> Result<Option<List<Word>>, AllocError>
-    ensures { IfOk result (λ words. Finds words (λ l. SpellsAll (items_view items.now) l.items)) }
+/// The word that a text is in such a script.
+pub(crate) fn word_in(thread: Thread, text: &str) -> Option<Word>
+    ensures { result ≡ word_in thread text.now }
 {
-    let mut words = List::with_room(alloc, items.len())?;
-    for item in items {
-        match word_at(item) {
-            Some(word) => words.push(word),
-            None => return Ok(None),
-        }
+    let word = word_of(text)?;
+    match (thread, word) {
+        (Thread::Reader, Word::Tick | Word::Idle | Word::Update) => None,
+        _ => Some(word),
     }
-    Ok(Some(words))
 }
 
-/// The word that a value spells.
-fn word_at(value: &Value) -> Option<Word>
-    ensures { Finds result (SpellsString (view value.now)) }
-{
-    word_of(value.as_str()?)
-}
-
-/// The word that a text spells.
+/// The word that a text is.
+#[tactic(auto, unfolding(crate::specs::Words::word_of))]
 fn word_of(text: &str) -> Option<Word>
-    ensures { Finds result (Spells text.now) }
+    ensures { result ≡ word_of text.now }
 {
     if text == "local" {
         Some(Word::Local)
     } else if text == "tick" {
         Some(Word::Tick)
-    } else {
-        let count = count_of(text.strip_prefix("pause ")?)?;
-        Some(Word::Pause(i64::from(count)))
-    }
-}
-
-/// The count that a text writes, in decimal with no sign and no leading zero.
-fn count_of(text: &str) -> Option<u32>
-    ensures { Finds result (Counts text.now) }
-{
-    let count = text.parse::<u32>().ok()?;
-    let mut buffer = Buffer::new();
-    if buffer.format(count) == text && 1 <= count && count <= MAX_PAUSE {
-        Some(count)
+    } else if text == "idle" {
+        Some(Word::Idle)
+    } else if text == "update" {
+        Some(Word::Update)
+    } else if let Some(cpu) = number_after(b"remote ", text.as_bytes()) {
+        Some(Word::Remote(i64::from(cpu)))
+    } else if let Some(tickets) = number_after(b"pause ", text.as_bytes()) {
+        Some(Word::Pause(i64::from(tickets)))
     } else {
         None
     }
+}
+
+/// The number behind a name and a space.
+#[tactic(auto, unfolding(crate::specs::Words::number_after))]
+fn number_after(name: &[u8], text: &[u8]) -> Option<u32>
+    ensures { result ≡ number_after name.now text.now }
+{
+    number_of(text.strip_prefix(name)?)
+}
+
+/// The number that a text is: 1 to 9 digits, of which the first is 0 only where it is alone.
+#[tactic(auto, unfolding(crate::specs::Words::number_of))]
+fn number_of(text: &[u8]) -> Option<u32>
+    ensures { result ≡ number_of text.now }
+{
+    if !is_number(text) {
+        return None;
+    }
+    let mut number = 0;
+    for digit in text {
+        number = number * 10 + u32::from(*digit - b'0');
+    }
+    Some(number)
+}
+
+/// Whether a text is such a number.
+#[tactic(auto, unfolding(crate::specs::Words::is_number))]
+fn is_number(text: &[u8]) -> bool
+    ensures { result ≡ is_number text.now }
+{
+    (1 <= text.len() && text.len() <= 9)
+        && (text.iter().all(|c| c.is_ascii_digit()) && (text.len() == 1 || text[0] != b'0'))
 }

@@ -1,3 +1,11 @@
 pub mod Plan
 pub mod Time
-pub mod Reading
+pub mod Tickets
+pub mod Limits
+pub mod Short
+pub mod Ranges
+pub mod Records
+pub mod Laws
+pub mod Sums
+pub mod Tested
+pub mod Kept

@@ -1,10 +1,14 @@
-ghost use Rattle.std.specs.Prelude.{◌≡◌, ◌^◌, ◌≤◌};
-ghost use Rattle.std.specs.List.{All};
-ghost use Rattle.clk_machine.specs.Plan.{IsInRange, tickets_of, tickets_needed};
+ghost use Rattle.std.specs.Prelude.{◌≡◌, ◌^◌, ◌<◌, ◌≤◌, length, slice_index_or};
+ghost use Rattle.clk_machine.specs.Plan.{script_plan, all_words};
+ghost use Rattle.clk_machine.specs.Limits.{IsWithin, is_update};
+ghost use Rattle.clk_machine.specs.Ranges.{script_length, script_updates};
+ghost use Rattle.clk_machine.specs.Tested.{HasCount, IsRunnable, script_tickets};
+ghost use Rattle.clk_machine.specs.Tickets.{tickets_of};
 
+use crate::ranges::count;
 use clk_num::List;
 
-/// What a CPU does: its words, all of them `repeat` times.
+/// What a thread does: its words, all of them `repeat` times, 0 to 65,536.
 #[derive(Drop)]
 pub struct Script {
     pub repeat: i64,
@@ -16,37 +20,88 @@ pub struct Script {
 pub enum Word {
     /// A local reading of the scheduler clock.
     Local,
+    /// A reading of the clock of this CPU, from another one.
+    Remote(i64),
     /// A tick: the CPU stamps its clock and makes a local reading.
     Tick,
+    /// The end of an idle time: a local reading, and then a tick.
+    Idle,
+    /// The CPU's latch gets a new record.
+    Update,
     /// So many tickets go by, 1 to 2^24.
     Pause(i64),
 }
 
 impl Word {
+    /// Whether the word is an update.
+    fn is_update(&self) -> bool
+        ensures { result ≡ is_update self.now }
+    {
+        matches!(self, Word::Update)
+    }
+
     /// How many tickets the word draws.
-    pub fn tickets(&self) -> u64
-        requires { IsInRange self.now }
-        ensures { result ≡ tickets_of self.now }
+    fn tickets(&self) -> u64
+        requires { HasCount self.now }
+        ensures count { result ≡ tickets_of self.now }
+        ensures few { result ≤ 2 ^ 24 }
     {
         match self {
-            Word::Local => 1,
+            Word::Local | Word::Remote(_) | Word::Update => 1,
             Word::Tick => 3,
-            Word::Pause(count) => *count as u64,
+            Word::Idle => 4,
+            Word::Pause(tickets) => count(tickets),
         }
     }
 }
 
 impl Script {
-    /// How many tickets a run of the words draws, with the three of the boot.
-    pub fn tickets(&self) -> u64
-        requires range { All IsInRange self.now.words.items }
-        requires few { tickets_needed self.now.words.items ≤ 2 ^ 24 }
-        ensures { result ≡ tickets_needed self.now.words.items }
+    /// How many words there are after the repeats, where they are at most 65,536.
+    pub(crate) fn count(&self) -> u32
+        requires repeat { IsWithin 0 65536 self.now.repeat }
+        requires few { length (all_words (script_plan self.now)) ≤ 65536 }
+        ensures { result ≡ length (all_words (script_plan self.now)) }
     {
-        let mut tickets = 3;
+        (self.words.len() as u64 * count(&self.repeat)) as u32
+    }
+
+    /// Word `m` after the repeats.
+    pub(crate) fn word(&self, m: u32) -> Word
+        requires { m < length (all_words (script_plan self.now)) }
+        ensures { result ≡ slice_index_or (all_words (script_plan self.now)) m result }
+    {
+        *self.words.get(m as usize % self.words.len())
+    }
+
+    /// How many tickets the words draw, after the repeats.
+    pub(crate) fn tickets(&self) -> u64
+        requires { IsRunnable (script_plan self.now) }
+        ensures count { result ≡ script_tickets (script_plan self.now) }
+        ensures few { result ≤ 2 ^ 40 }
+    {
+        let mut tickets = 0;
         for word in self.words.items() {
             tickets += word.tickets();
         }
-        tickets
+        count(&self.repeat) * tickets
+    }
+
+    /// How many words there are after the repeats.
+    pub(crate) fn length(&self) -> u64
+        requires repeat { IsWithin 0 65536 self.now.repeat }
+        requires words { length self.now.words.items < 2 ^ 32 }
+        ensures { result ≡ script_length (script_plan self.now) }
+    {
+        self.words.len() as u64 * count(&self.repeat)
+    }
+
+    /// How many updates there are after the repeats.
+    pub(crate) fn updates(&self) -> u64
+        requires repeat { IsWithin 0 65536 self.now.repeat }
+        requires words { length self.now.words.items < 2 ^ 32 }
+        ensures { result ≡ script_updates (script_plan self.now) }
+    {
+        let updates = self.words.items().iter().filter(|word| word.is_update());
+        updates.count() as u64 * count(&self.repeat)
     }
 }

@@ -17,9 +17,11 @@ use Rattle.clk_trace.specs.LawfulTrace.{HasLegalHistories, IsLawful}
 use Rattle.clk_trace.specs.declared.event.Event.{Event}
 use Rattle.clk_trace.specs.declared.trace.StableStamp.{StableStamp}
 use Rattle.clk_trace.specs.declared.trace.Trace.{Trace}
+use Rattle.clk_tool.specs.Built.{words_of}
 use Rattle.clk_tool.specs.Running.{Runs}
 use Rattle.clk_tool.specs.Booting.{IsRunOf}
 use Rattle.clk_tool.specs.declared.clock.Clock.{Clock}
+use Rattle.clk_tool.proofs.OneThread.{one_thread, threads_one}
 use Rattle.clk_tool.proofs.RunTickets.{runs_follow}
 use Rattle.clk_tool.proofs.RunReadings.{runs_right, runs_name}
 use Rattle.clk_tool.proofs.RunHistory.{runs_chain, runs_sorted, script_calls}
@@ -71,7 +73,7 @@ histories : (m : Plan) (t : Trace) (r : IsRunOf m t) → HasLegalHistories m t
 histories m t r =
     let steps : List Step = steps_from 0 0 r.events.items in
     record {
-      count = rw r.histories refl;
+      count = let one = one_thread m r.built in rw (r.histories, one.cpus) refl;
       words =
           rw (r.histories, r.cpu_of, r.threads, r.start_word, append-nil) (
             record {
@@ -79,7 +81,7 @@ histories m t r =
                 ordered = steps;
                 all = same_list steps;
                 printed = r.steps;
-                sorted = rw r.steps (runs_sorted m r.start r.events.items r.after 0 0 r.runs (script_calls 0 m.words r.events.items r.script));
+                sorted = rw r.steps (runs_sorted m r.start r.events.items r.after 0 0 r.runs (script_calls 0 (words_of m) r.events.items r.script));
               };
               chain = runs_chain m r.start r.events.items r.after 0 r.runs;
             },
@@ -96,7 +98,7 @@ histories m t r =
 pub lawful : (m : Plan) (t : Trace) → IsRunOf m t → IsLawful m t
 lawful m t r =
     record {
-      script = record { cpus = r.cpu_of; events = rw r.threads (r.script, tt) };
+      script = let all = threads_one m (one_thread m r.built) in record { cpus = rw all r.cpu_of; events = rw (all, r.threads) (r.script, tt) };
       readings = readings m t r;
       histories = histories m t r;
       once = rw (r.threads, r.histories, append-nil, append-nil, r.steps) (same_list _);

@@ -7,3 +7,6 @@ pub mod RunHistory
 pub mod RunReadings
 pub mod RunSeen
 pub mod RunTickets
+pub mod OneThread
+pub mod RawReadings
+pub mod Accepting

@@ -1,5 +1,5 @@
 -- The steps of a run are a chain, and they stand in the order of a history.
-use Rattle.std.proofs.Common.{◌≡◌, ℕ, zero, suc, ◌+◌, ◌<◌, ◌≤◌, pos, ◌≤ℤ◌, false, List, [], ◌∷◌, ◌++◌, map, refl, sym, ◌∙◌, arith, inl, inr, ◌⊎◌}
+use Rattle.std.proofs.Common.{◌≡◌, ℕ, zero, suc, ◌+◌, ◌<◌, ◌≤◌, ◌≤ℤ◌, false, List, [], ◌∷◌, ◌++◌, map, refl, sym, ◌∙◌, arith, inl, inr, ◌⊎◌}
 use Rattle.std.proofs.lemmas.Int.{ints, clamps}
 use Rattle.std.proofs.lemmas.Bool.Decides.{nat_tests}
 use Rattle.std.proofs.lemmas.List.{map-append}
@@ -19,13 +19,13 @@ use Rattle.clk_tool.specs.declared.clock.Clock.{Clock}
 
 -- a reading's step comes before a chain from the word that it leaves; other events leave the word
 pub shows_chain : (m : Plan) (v : Clock) (k : EventKind) (w : Clock) (call part : ℕ) (rest : List Step) → Shows m v k w
-    → IsChain (pos m.tick) w.word rest → IsChain (pos m.tick) v.word (steps_of_kind 0 call part k ++ rest)
+    → IsChain m.tick w.word rest → IsChain m.tick v.word (steps_of_kind 0 call part k ++ rest)
 shows_chain m v (Local raw tick_raw tick_gtod offset old new) w call part rest h later =
     (h.old_is, rw (h.names_raw, h.names_gtod, h.names_offset) h.new_is, rw h.after at later)
 shows_chain m v (Stamp gtod_ticket gtod raw) w call part rest h later = rw h.after at later
 shows_chain m v (Pause ticket count) w call part rest h later = rw h.after at later
 
-pub runs_chain : (m : Plan) (v : Clock) (es : List Event) (w : Clock) (part : ℕ) → Runs m v es w → IsChain (pos m.tick) v.word (steps_from 0 part es)
+pub runs_chain : (m : Plan) (v : Clock) (es : List Event) (w : Clock) (part : ℕ) → Runs m v es w → IsChain m.tick v.word (steps_from 0 part es)
 runs_chain m v [] w part r = tt
 runs_chain m v (e ∷ es) w part r =
     shows_chain m v e.kind r.0 e.call part (steps_from 0 (part + 1) es) r.1 (runs_chain m r.0 es w (part + 1) r.2)
@@ -43,7 +43,7 @@ calls_at : (c : ℕ) (ks : List EventKind) (rest : List Event) → CallsRise c r
 calls_at c [] rest h = h
 calls_at c (k ∷ ks) rest h = (omega arith, calls_at c ks rest h)
 
-pub script_calls : (c : ℕ) (ws : List Word) (es : List Event) → AreEventsOf c ws es → CallsRise c es
+pub script_calls : (c : ℕ) (ws : List Word) (es : List Event) → AreEventsOf 0 c ws es → CallsRise c es
 script_calls c [] es a = rw a tt
 script_calls c (w ∷ ws) es a = rw a.2 (calls_at c a.0 a.1 (calls_lower c (c + 1) a.1 (omega arith) (script_calls (c + 1) ws a.1 a.4)))
 

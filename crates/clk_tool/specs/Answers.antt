@@ -1,14 +1,17 @@
 -- What the answers of the program mean.
-use Rattle.std.specs.Prelude.{◌≡◌, ℕ, ◌≤◌, List, length, Option, Some, None, IsSomeAnd}
+use Rattle.std.specs.Prelude.{◌≡◌, ℕ, ◌≤◌, true, List, length, Option, Some, None, Result, Ok, Err, if◌then◌else◌}
 use Rattle.clk_machine.specs.Plan.{Plan}
-use Rattle.clk_file.specs.Document.{document}
-use Rattle.clk_file.specs.Plain.{Describes}
+use Rattle.clk_file.specs.Acceptance.{accepted}
+use Rattle.clk_file.specs.declared.error.FileError.{FileError}
+use Rattle.clk_file.specs.declared.error.FileError.TheVariants as file
 use Rattle.clk_trace.specs.TraceText.{text}
 use Rattle.clk_trace.specs.LawfulTrace.{IsLawful}
 use Rattle.clk_trace.specs.declared.trace.Trace.{Trace}
-use Rattle.clk_tool.specs.Whole.{Came}
+use Rattle.clk_tool.specs.Built.{is_built}
+use Rattle.clk_tool.specs.Whole.{Came, CameMore}
 use Rattle.clk_tool.specs.declared.status.Status.{Status}
 use Rattle.clk_tool.specs.declared.status.Status.TheVariants.{Done, Usage, ReadFault, Refused, WriteFault, Memory}
+use Rattle.clk_tool.specs.declared.status.Refusal.{Refusal}
 use Rattle.clk_tool.specs.declared.status.Refusal.TheVariants.{TooLong, NotToml, Key, Value, Word, Cpu, Tickets, Unbuilt}
 
 -- exit statuses, in the order of the answers
@@ -20,11 +23,11 @@ exit_code_of (Refused r) = 3
 exit_code_of WriteFault = 4
 exit_code_of Memory = 5
 
--- the bytes of the file came to their end, and describe this machine
+-- the bytes of the file came to their end, and are this machine
 pub record CameMachine (limit : ℕ) (before after : Option (List ℕ)) (m : Plan) : Type 0 where
   pub bytes : List ℕ
   pub came : Came limit before after bytes
-  pub described : IsSomeAnd (document bytes) (λ t. Describes t m)
+  pub machine : accepted bytes ≡ Ok m
 
 -- the text of a lawful trace of the machine was written so
 pub record Traced (m : Plan) (Written : List ℕ → Type 0) : Type 0 where
@@ -38,34 +41,50 @@ pub record Ran (limit : ℕ) (before after : Option (List ℕ)) (Written : List 
   pub came : CameMachine limit before after machine
   pub traced : Traced machine Written
 
--- the bytes of the file came, and are no TOML
-pub record CameNoToml (limit : ℕ) (before after : Option (List ℕ)) : Type 0 where
+-- the refusal of a file that came whole, by what its bytes are: the first failing test, and last of all a form that is
+-- not built
+abbrev pub refusal_of_machine : Plan → Option Refusal
+refusal_of_machine m = if is_built m then None else Some Unbuilt
+
+abbrev pub refusal_of : Result Plan FileError → Option Refusal
+refusal_of (Ok m) = refusal_of_machine m
+refusal_of (Err file.NotToml) = Some NotToml
+refusal_of (Err (file.Key place)) = Some (Key place)
+refusal_of (Err (file.Value place)) = Some (Value place)
+refusal_of (Err (file.Word place)) = Some (Word place)
+refusal_of (Err (file.Cpu place)) = Some (Cpu place)
+refusal_of (Err (file.Tickets needed)) = Some (Tickets needed)
+refusal_of (Err (file.Memory e)) = None
+
+-- the answer of the program where a file is no machine
+abbrev pub status_of : FileError → Status
+status_of file.NotToml = Refused NotToml
+status_of (file.Key place) = Refused (Key place)
+status_of (file.Value place) = Refused (Value place)
+status_of (file.Word place) = Refused (Word place)
+status_of (file.Cpu place) = Refused (Cpu place)
+status_of (file.Tickets needed) = Refused (Tickets needed)
+status_of (file.Memory e) = Memory
+
+-- the bytes of the file came to their end, and are refused so
+pub record CameRefused (limit : ℕ) (before after : Option (List ℕ)) (refusal : Refusal) : Type 0 where
   pub bytes : List ℕ
   pub came : Came limit before after bytes
-  pub no_toml : document bytes ≡ None
+  pub refused : refusal_of (accepted bytes) ≡ Some refusal
 
--- the bytes of the file came, and are a TOML table that describes no machine of the forms that are built
-pub record CameUnbuilt (limit : ℕ) (before after : Option (List ℕ)) : Type 0 where
-  pub bytes : List ℕ
-  pub came : Came limit before after bytes
-  pub unbuilt : IsSomeAnd (document bytes) (λ t. (m : Plan) → ¬ Describes t m)
+-- what a refusal says of the bytes that came
+abbrev pub IsCause : ℕ → Option (List ℕ) → Option (List ℕ) → Refusal → Type 0
+IsCause limit before after TooLong = CameMore limit before after
+IsCause limit before after refusal = CameRefused limit before after refusal
 
--- the source tells its bytes, they are few enough, and they describe a machine
+-- the source tells its bytes, they are few enough, and they are a machine whose every form is built
 pub record HoldsMachine (limit : ℕ) (rest : Option (List ℕ)) : Type 0 where
   pub bytes : List ℕ
   pub told : rest ≡ Some bytes
   pub short : length bytes ≤ limit
-  pub machine : Plan
-  pub described : IsSomeAnd (document bytes) (λ t. Describes t machine)
-
--- refusals that name a place or a number of tickets are not given yet
-abbrev pub NamesNoPlace : Status → Type 0
-NamesNoPlace (Refused (Key p)) = ⊥
-NamesNoPlace (Refused (Value p)) = ⊥
-NamesNoPlace (Refused (Word p)) = ⊥
-NamesNoPlace (Refused (Cpu p)) = ⊥
-NamesNoPlace (Refused (Tickets needed)) = ⊥
-NamesNoPlace _ = Unit {0}
+  pub plan : Plan
+  pub machine : accepted bytes ≡ Ok plan
+  pub built : is_built plan ≡ true
 
 -- answers under which nothing was written
 abbrev pub IsSilent : Status → Type 0
@@ -76,9 +95,7 @@ IsSilent _ = Unit {0}
 -- the answers where no machine came, and those of the run of a machine
 abbrev pub IsOfFile : Status → Type 0
 IsOfFile ReadFault = Unit {0}
-IsOfFile (Refused TooLong) = Unit {0}
-IsOfFile (Refused NotToml) = Unit {0}
-IsOfFile (Refused Unbuilt) = Unit {0}
+IsOfFile (Refused r) = Unit {0}
 IsOfFile Memory = Unit {0}
 IsOfFile _ = ⊥
 

@@ -1,4 +1,5 @@
 pub mod Answers
+pub mod Built
 pub mod Booting
 pub mod Commands
 pub mod Ends

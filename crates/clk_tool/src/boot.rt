@@ -1,3 +1,4 @@
+ghost use Rattle.clk_machine.specs.Limits.{IsWithinLimits};
 ghost use Rattle.clk_tool.specs.Booting.{IsBooted};
 
 use crate::clock::Clock;
@@ -14,6 +15,7 @@ pub struct Boot {
 
 /// Reads the epoch, and then stamps once: the clock is per-CPU from the start, and its word opens at the stamp.
 pub fn boot_machine(machine: &Machine) -> Boot
+    requires { IsWithinLimits machine.now }
     ensures { IsBooted machine.now result.epoch_cyc result.stamp result.clock }
 {
     let epoch_cyc = machine.counter(0, 0, 0);

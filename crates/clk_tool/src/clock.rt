@@ -1,12 +1,12 @@
 ghost use Rattle.std.specs.Prelude.{◌≡◌, ◌+◌, ◌^◌, ◌<◌, ◌≤◌, ℤ, pos, ◌+ℤ◌, ◌≤ℤ◌};
 ghost use Rattle.clk_num.specs.Range.{IsNear};
 ghost use Rattle.clk_num.specs.Clamp.{raise, local_target, elapsed};
-ghost use Rattle.clk_machine.specs.Reading.{IsRightReading};
+ghost use Rattle.clk_trace.specs.RightReadings.{IsRightRaw};
 ghost use Rattle.clk_trace.specs.ScriptEvents.{IsLocal, IsStamp, IsPause};
 ghost use Rattle.clk_tool.specs.Running.{IsReady, Shows};
 
 use clk_machine::{Machine, RawReading};
-use clk_num::clamp_local;
+use clk_num::{clamp_local, cyc_to_ns, masked_delta};
 use clk_trace::EventKind;
 
 /// The clock of one CPU, and the ticket that is drawn next. Times are in ns.
@@ -26,19 +26,20 @@ impl Clock {
     pub fn raw(&mut self, machine: &Machine) -> RawReading
         requires ready { IsReady machine.now self.old }
         requires left { self.old.next < 2 ^ 24 }
-        ensures right { IsRightReading machine.now 0 result }
+        ensures right { IsRightRaw machine.now 0 result }
         ensures ticket { result.ticket ≡ self.old.next }
-        ensures small { (pos 0 ≤ℤ result.ns) × (result.ns ≤ℤ pos (2 ^ 49)) }
+        ensures small { (pos 0 ≤ℤ result.ns) × (result.ns ≤ℤ pos (2 ^ 59)) }
         ensures after { self.new ≡ record self.old { next = self.old.next + 1 } }
     {
         let ticket = self.next;
         self.next += 1;
         let cyc = machine.counter(0, 0, ticket);
+        let since = masked_delta(cyc, self.zero, machine.bits());
         RawReading {
             ticket,
             cyc,
             rec: 0,
-            ns: cyc.saturating_sub(self.zero) as i64,
+            ns: cyc_to_ns(since, machine.sched_rate()) as i64,
         }
     }
 
@@ -68,10 +69,10 @@ impl Clock {
     /// The word after a local reading of this raw time.
     fn raised(&self, machine: &Machine, raw: &RawReading) -> i64
         requires ready { IsReady machine.now self.now }
-        requires raw { (pos 0 ≤ℤ raw.now.ns) × (raw.now.ns ≤ℤ pos (2 ^ 49)) }
-        ensures near { IsNear 54 result }
+        requires raw { (pos 0 ≤ℤ raw.now.ns) × (raw.now.ns ≤ℤ pos (2 ^ 59)) }
+        ensures near { IsNear 61 result }
         ensures value { result ≡ raise self.now.word (local_target (self.now.tick_gtod +ℤ self.now.offset)
-            (elapsed raw.now.ns self.now.tick_raw) (pos machine.now.tick)) }
+            (elapsed raw.now.ns self.now.tick_raw) machine.now.tick) }
     {
         let base = self.tick_gtod + self.offset;
         let delta = (raw.ns - self.tick_raw).max(0);

@@ -15,12 +15,14 @@
 #![tactic(auto)]
 
 mod boot;
+mod built;
 mod clock;
 mod command;
 #[cfg(test)]
 mod end_tests;
 mod failures;
 mod memory;
+mod path;
 #[cfg(test)]
 mod row_tests;
 mod run;

@@ -1,5 +1,7 @@
-ghost use Rattle.std.specs.Prelude.{◌≤◌, length, IfOk};
+ghost use Rattle.std.specs.Prelude.{◌≡◌, ◌≤◌, true, length, IfOk};
+ghost use Rattle.clk_machine.specs.Limits.{IsWithinLimits};
 ghost use Rattle.clk_trace.specs.LawfulTrace.{IsLawful};
+ghost use Rattle.clk_tool.specs.Built.{is_built, words_of};
 ghost use Rattle.clk_tool.specs.Room.{HasRoom};
 
 use crate::boot::{Boot, boot_machine};
@@ -41,6 +43,7 @@ impl Lists {
 /// Runs the script of a machine on this thread, from the boot on, and answers the trace, which is lawful. The error is
 /// want of memory, and comes before the first word passes the gate.
 pub fn run_machine<G: Gate>(alloc: Global, machine: &Machine, gate: &G) -> Result<Trace, AllocError>
+    requires { is_built machine.now ≡ true }
     ensures { IfOk result (IsLawful machine.now) }
 {
     let lists = Lists::with_room(alloc, machine.words(0) as usize)?;
@@ -49,7 +52,9 @@ pub fn run_machine<G: Gate>(alloc: Global, machine: &Machine, gate: &G) -> Resul
 
 /// The same within lists that have the room.
 fn run_in<G: Gate>(machine: &Machine, lists: Lists, gate: &G) -> Trace
-    requires { HasRoom (length machine.now.words) lists }
+    requires built { is_built machine.now ≡ true }
+    requires limits { IsWithinLimits machine.now }
+    requires room { HasRoom (length (words_of machine.now)) lists }
     ensures { IsLawful machine.now result }
 {
     let Lists {

@@ -1,6 +1,7 @@
 ghost use Rattle.std.specs.Prelude.{◌≡◌};
 ghost use Rattle.clk_tool.specs.Answers.{exit_code_of};
 
+use crate::path::Path;
 use clk_machine::Place;
 use std::fmt;
 
@@ -73,15 +74,15 @@ impl fmt::Display for Status {
 }
 
 impl fmt::Display for Refusal {
-    /// The refusal's code, and the number of tickets where that is what is refused.
+    /// The refusal's code, and the path of its place or the number of tickets where it has one.
     fn fmt<W: fmt::Write>(&self, f: &mut fmt::Formatter<W>) -> fmt::Result {
         match self {
             Refusal::TooLong => write!(f, "0"),
             Refusal::NotToml => write!(f, "1"),
-            Refusal::Key(_) => write!(f, "2"),
-            Refusal::Value(_) => write!(f, "3"),
-            Refusal::Word(_) => write!(f, "4"),
-            Refusal::Cpu(_) => write!(f, "5"),
+            Refusal::Key(place) => write!(f, "2 {}", Path(*place)),
+            Refusal::Value(place) => write!(f, "3 {}", Path(*place)),
+            Refusal::Word(place) => write!(f, "4 {}", Path(*place)),
+            Refusal::Cpu(place) => write!(f, "5 {}", Path(*place)),
             Refusal::Tickets { needed } => write!(f, "6 {needed}"),
             Refusal::Unbuilt => write!(f, "7"),
         }

@@ -1,6 +1,8 @@
-ghost use Rattle.std.specs.Prelude.{◌≡◌, ◌+◌, ◌^◌, ◌<◌, ◌≤◌, pos, length};
-ghost use Rattle.clk_machine.specs.Plan.{tickets_of, IsInRange};
+ghost use Rattle.std.specs.Prelude.{◌≡◌, true, ◌+◌, ◌^◌, ◌<◌, ◌≤◌, pos, length};
+ghost use Rattle.clk_machine.specs.Limits.{IsInRange};
+ghost use Rattle.clk_machine.specs.Tickets.{tickets_of};
 ghost use Rattle.clk_trace.specs.ScriptEvents.{IsLocal, IsStamp, IsPause};
+ghost use Rattle.clk_tool.specs.Built.{is_built, is_built_word, words_of};
 ghost use Rattle.clk_tool.specs.Running.{IsReady};
 ghost use Rattle.clk_tool.specs.Making.{MakesOne, MakesWord, HasMade};
 
@@ -70,7 +72,8 @@ impl Thread {
 
     /// One word of the script.
     fn word(&mut self, machine: &Machine, call: u32, word: Word)
-        requires range { IsInRange word }
+        requires range { IsInRange 1 word }
+        requires built { is_built_word word ≡ true }
         requires ready { IsReady machine.now self.old.clock }
         requires left { self.old.clock.next + tickets_of word ≤ 2 ^ 24 }
         requires few { length self.old.events.items + 2 ≤ 2 ^ 32 }
@@ -79,18 +82,23 @@ impl Thread {
     {
         match word {
             Word::Local => self.local(machine, call),
+            // The CPU that is named is the one that there is.
+            Word::Remote(_) => self.local(machine, call),
             Word::Tick => {
                 self.stamp(machine, call);
                 self.local(machine, call);
             }
             Word::Pause(count) => self.pause(machine, call, count as u64),
+            // These are none of the words that are built.
+            Word::Idle | Word::Update => {}
         }
     }
 
     /// The whole script: each word passes the gate and is then made.
     pub fn run<G: Gate>(&mut self, machine: &Machine, gate: &G)
-        requires { HasMade machine.now self.old.clock 0 self.old }
-        ensures { HasMade machine.now self.old.clock (length machine.now.words) self.new }
+        requires built { is_built machine.now ≡ true }
+        requires start { HasMade machine.now self.old.clock 0 self.old }
+        ensures { HasMade machine.now self.old.clock (length (words_of machine.now)) self.new }
     {
         for call in 0..machine.words(0) {
             gate.pass(0, call, self.last);

@@ -1,9 +1,10 @@
-ghost use Rattle.std.specs.Prelude.{◌≡◌, ◌↔◌, ◌⊎◌, ◌≤◌, None, IsSome, IfOk, IfErr, map, string_bytes};
+ghost use Rattle.std.specs.Prelude.{◌≡◌, ◌↔◌, ◌⊎◌, ◌≤◌, true, None, IsSome, IfOk, IfErr, map, string_bytes};
 ghost use Rattle.clk_base.specs.Causes.{Rose, Grew, GrewByPrefix};
-ghost use Rattle.clk_tool.specs.Whole.{CameMore};
+ghost use Rattle.clk_tool.specs.Built.{is_built};
 ghost use Rattle.clk_tool.specs.Commands.{command_of};
-ghost use Rattle.clk_tool.specs.Answers.{Ran, CameMachine, Traced, CameNoToml, CameUnbuilt, HoldsMachine, NamesNoPlace, IsSilent, IsOfFile, IsOfRun};
+ghost use Rattle.clk_tool.specs.Answers.{Ran, CameMachine, Traced, status_of, IsCause, HoldsMachine, IsSilent, IsOfFile, IsOfRun};
 
+use crate::built::is_built;
 use crate::command::{Command, command_in};
 use crate::run::run_machine;
 use crate::source::Source;
@@ -34,13 +35,8 @@ pub fn clock_tool<R, S: Source, K: Sink, G: Gate>(
     // The causes of the other answers.
     ensures usage { (result ≡ Status.Usage) ↔ (command_of (map (λ w. string_bytes w) words.now) ≡ None) }
     ensures read_fault { result ≡ Status.ReadFault → Rose (S.faults source.old) (S.faults source.new) }
-    ensures too_long { result ≡ Status.Refused Refusal.TooLong →
-        CameMore LIMIT (S.rest source.old) (S.rest source.new) }
-    ensures not_toml { result ≡ Status.Refused Refusal.NotToml →
-        CameNoToml LIMIT (S.rest source.old) (S.rest source.new) }
-    ensures unbuilt { result ≡ Status.Refused Refusal.Unbuilt →
-        CameUnbuilt LIMIT (S.rest source.old) (S.rest source.new) }
-    ensures no_place { NamesNoPlace result }
+    ensures refused { (refusal : Refusal) → result ≡ Status.Refused refusal →
+        IsCause LIMIT (S.rest source.old) (S.rest source.new) refusal }
     ensures write_fault { result ≡ Status.WriteFault → Rose (K.faults sink.old) (K.faults sink.new) }
     ensures cut { result ≡ Status.WriteFault →
         Ran LIMIT (S.rest source.old) (S.rest source.new) (GrewByPrefix (K.written sink.old) (K.written sink.new)) }
@@ -67,13 +63,10 @@ pub fn clock_tool<R, S: Source, K: Sink, G: Gate>(
 /// The machine that a source describes. The error is the answer of the program.
 fn machine_of<S: Source>(alloc: Global, source: &mut S) -> Result<Machine, Status>
     ensures ok { IfOk result (CameMachine LIMIT (S.rest source.old) (S.rest source.new)) }
+    ensures built { IfOk result (λ m. is_built m ≡ true) }
     ensures read_fault { result ≡ Err Status.ReadFault → Rose (S.faults source.old) (S.faults source.new) }
-    ensures too_long { result ≡ Err (Status.Refused Refusal.TooLong) →
-        CameMore LIMIT (S.rest source.old) (S.rest source.new) }
-    ensures not_toml { result ≡ Err (Status.Refused Refusal.NotToml) →
-        CameNoToml LIMIT (S.rest source.old) (S.rest source.new) }
-    ensures unbuilt { result ≡ Err (Status.Refused Refusal.Unbuilt) →
-        CameUnbuilt LIMIT (S.rest source.old) (S.rest source.new) }
+    ensures refused { (refusal : Refusal) → result ≡ Err (Status.Refused refusal) →
+        IsCause LIMIT (S.rest source.old) (S.rest source.new) refusal }
     ensures answers { IfErr result IsOfFile }
     ensures later { S.faults source.old ≤ S.faults source.new }
 {
@@ -84,15 +77,30 @@ fn machine_of<S: Source>(alloc: Global, source: &mut S) -> Result<Machine, Statu
         Err(ReadRefusal::Memory) => return Err(Status::Memory),
     };
     match read_machine(alloc, bytes.as_slice()) {
-        Ok(machine) => Ok(machine),
-        Err(FileError::NotToml) => Err(Status::Refused(Refusal::NotToml)),
-        Err(FileError::Unbuilt) => Err(Status::Refused(Refusal::Unbuilt)),
-        Err(FileError::Memory(_)) => Err(Status::Memory),
+        Ok(machine) if is_built(&machine) => Ok(machine),
+        Ok(_) => Err(Status::Refused(Refusal::Unbuilt)),
+        Err(error) => Err(status_of(error)),
+    }
+}
+
+/// The answer where a file is no machine.
+fn status_of(error: FileError) -> Status
+    ensures { result ≡ status_of error }
+{
+    match error {
+        FileError::NotToml => Status::Refused(Refusal::NotToml),
+        FileError::Key(place) => Status::Refused(Refusal::Key(place)),
+        FileError::Value(place) => Status::Refused(Refusal::Value(place)),
+        FileError::Word(place) => Status::Refused(Refusal::Word(place)),
+        FileError::Cpu(place) => Status::Refused(Refusal::Cpu(place)),
+        FileError::Tickets { needed } => Status::Refused(Refusal::Tickets { needed }),
+        FileError::Memory(_) => Status::Memory,
     }
 }
 
 /// Runs a machine and writes its trace.
 fn trace_into<K: Sink, G: Gate>(alloc: Global, machine: &Machine, sink: &mut K, gate: &G) -> Status
+    requires { is_built machine.now ≡ true }
     ensures done { result ≡ Status.Done →
         Traced machine.now (Grew (K.written sink.old) (K.written sink.new)) }
     ensures write_fault { result ≡ Status.WriteFault → Rose (K.faults sink.old) (K.faults sink.new) }

@@ -16,7 +16,7 @@ use Rattle.clk_trace.specs.declared.trace.Trace.{Trace}
 -- the machine's threads, each with the events of its script
 pub record FollowsScripts (m : Plan) (t : Trace) : Type 0 where
   pub cpus : t.cpu_of.items ≡ map (λ s. s.0) (threads_of m)
-  pub events : AllZip (λ s es. AreEventsOf 0 s.1 es.items) (threads_of m) t.threads.items
+  pub events : AllZip (λ s es. AreEventsOf s.0 0 s.1 es.items) (threads_of m) t.threads.items
 
 -- epoch, boot stamp, offsets and openings as the boot makes them
 pub record HasOpening (m : Plan) (t : Trace) : Type 0 where
@@ -38,7 +38,7 @@ EachFrom P n (x ∷ xs) = P n x × EachFrom P (n + 1) xs
 -- first one that is the last stamp of the boot
 pub record HasLegalHistories (m : Plan) (t : Trace) : Type 0 where
   pub count : length t.histories.items ≡ cpu_count m
-  pub words : EachFrom (λ w lines. IsLegalHistory (pos m.tick) t.start_word (steps_on w 0 t.cpu_of.items t.threads.items) lines.items) 0 t.histories.items
+  pub words : EachFrom (λ w lines. IsLegalHistory m.tick t.start_word (steps_on w 0 t.cpu_of.items t.threads.items) lines.items) 0 t.histories.items
   pub stamps : All (λ s. All (λ es. NamesLastStamps t.gtod_offset (record { raw = s.raw.ns; gtod = s.gtod }) es.items) t.threads.items) t.boots.items
 
 -- the histories hold the step of each reading once, and nothing else

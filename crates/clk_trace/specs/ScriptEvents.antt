@@ -19,18 +19,22 @@ abbrev pub IsPause : ℤ → EventKind → Type 0
 IsPause n (Pause ticket count) = n ≡ pos count
 IsPause n _ = ⊥
 
--- what one script word calls for
-abbrev pub Calls : Word → List EventKind → Type 0
-Calls word.Local ks = (k : EventKind) × (ks ≡ k ∷ []) × IsLocal k
-Calls word.Tick ks = (k l : EventKind) × (ks ≡ k ∷ l ∷ []) × IsStamp k × IsLocal l
-Calls (word.Pause n) ks = (k : EventKind) × (ks ≡ k ∷ []) × IsPause n k
+-- what one script word of a thread on this CPU calls for; a remote reading of the own CPU is a local one, and other
+-- CPUs, idle times and updates have no events yet
+abbrev pub Calls : ℕ → Word → List EventKind → Type 0
+Calls cpu word.Local ks = (k : EventKind) × (ks ≡ k ∷ []) × IsLocal k
+Calls cpu (word.Remote d) ks = (d ≡ pos cpu) × ((k : EventKind) × (ks ≡ k ∷ []) × IsLocal k)
+Calls cpu word.Tick ks = (k l : EventKind) × (ks ≡ k ∷ l ∷ []) × IsStamp k × IsLocal l
+Calls cpu word.Idle ks = ⊥
+Calls cpu word.Update ks = ⊥
+Calls cpu (word.Pause n) ks = (k : EventKind) × (ks ≡ k ∷ []) × IsPause n k
 
 -- the events of call m
 abbrev pub events_at : ℕ → List EventKind → List Event
 events_at m ks = map (λ k. record { call = m; kind = k }) ks
 
--- the events are those of each word in order, whose calls are numbered from m
-abbrev pub AreEventsOf : ℕ → List Word → List Event → Type 0
-AreEventsOf m [] es = es ≡ []
-AreEventsOf m (w ∷ ws) es =
-    (ks : List EventKind) × (rest : List Event) × (es ≡ events_at m ks ++ rest) × Calls w ks × AreEventsOf (m + 1) ws rest
+-- the events of a thread on this CPU are those of each word in order, whose calls are numbered from m
+abbrev pub AreEventsOf : ℕ → ℕ → List Word → List Event → Type 0
+AreEventsOf cpu m [] es = es ≡ []
+AreEventsOf cpu m (w ∷ ws) es =
+    (ks : List EventKind) × (rest : List Event) × (es ≡ events_at m ks ++ rest) × Calls cpu w ks × AreEventsOf cpu (m + 1) ws rest

@@ -13,7 +13,7 @@ returns c =
     let from = c.gtod-gtod.ensures.small.0 in
     let upto = c.gtod-gtod.ensures.small.1 in
     rw c.raw-raw.ensures.after (simp to_z-of_z (record {
-      epoch = c.counter-epoch_cyc.ensures.count;
+      epoch = c.counter-epoch_cyc.ensures;
       gtod_ticket = refl;
       gtod = c.gtod-gtod.ensures.time;
       ticket = c.raw-raw.ensures.ticket;
@@ -25,7 +25,8 @@ returns c =
       pair_gtod = refl;
       offset_kept = refl;
       ready = record {
-        zero = c.counter-epoch_cyc.ensures.count;
+        limits = c.requires;
+        zero = c.counter-epoch_cyc.ensures;
         next = omega arith;
         tick_raw = (omega (arith, ints), omega (arith, ints));
         tick_gtod = (omega (arith, ints), omega (arith, ints));
@@ -33,3 +34,14 @@ returns c =
         word = (omega (arith, ints), omega (arith, ints));
       };
     }))
+
+pub overflow_add-clock : goal.overflow_add-clock
+overflow_add-clock c =
+    let low = c.raw-raw.ensures.small.0 in
+    let high = c.raw-raw.ensures.small.1 in
+    let from = c.gtod-gtod.ensures.small.0 in
+    let upto = c.gtod-gtod.ensures.small.1 in
+    let ns : FitsSigned w64 c.raw-raw.result.ns = search rules in
+    let gtod : FitsSigned w64 c.gtod-gtod.result = search rules in
+    let offset : FitsSigned w64 (c.raw-raw.result.ns -ℤ c.gtod-gtod.result) = omega (arith, ints) in
+    simp to_z-of_z (omega (arith, ints))

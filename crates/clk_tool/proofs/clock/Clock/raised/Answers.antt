@@ -1,6 +1,5 @@
-use Rattle.std.proofs.Common.{arith, rules, FitsSigned, w64, to_z-of_z, pos, ◌+ℤ◌, ◌-ℤ◌, ◌≤ℤ◌}
+use Rattle.std.proofs.Common.{arith, rules, FitsSigned, w64, to_z-of_z, pos, ◌+ℤ◌, ◌-ℤ◌, ◌≤ℤ◌, ◌^◌}
 use Rattle.std.proofs.lemmas.Int.{ints}
-use Rattle.clk_num.specs.Range.{IsNear}
 use Rattle.clk_tool.proofs.Near.{elapsed_up, elapsed_near, raise_near}
 use Rattle.clk_tool.proofs.clock.Clock.raised.Goals as goal
 
@@ -43,7 +42,9 @@ returns-clause-near c =
     let out : FitsSigned w64 c.clamp_local.result = search rules in
     let e = simp to_z-of_z at c.max-delta.ensures.value in
     let f = simp to_z-of_z at c.clamp_local.ensures in
-    let start : IsNear 52 (c.args.self.now.tick_gtod +ℤ c.args.self.now.offset) = (omega (arith, ints), omega (arith, ints)) in
-    let low : pos 0 ≤ℤ c.tick.result = omega (arith, ints) in
+    let some = c.tick.ensures.range.0 in
+    let few = c.tick.ensures.range.2 in
+    let low : pos 0 ≤ℤ c.tick.result = omega (arith, ints, some) in
+    let high : c.tick.result ≤ℤ pos (2 ^ 30) = omega (arith, ints, some, few) in
     rw (to_z-of_z out, f, e)
-    (raise_near _ _ _ _ c.requires.ready.word start (elapsed_up c.args.raw.now.ns c.args.self.now.tick_raw) low c.tick.ensures.range.1)
+    (raise_near _ _ _ _ _ c.requires.ready.word c.requires.ready.tick_gtod c.requires.ready.offset (elapsed_up c.args.raw.now.ns c.args.self.now.tick_raw) low high)

@@ -1,9 +1,14 @@
 use Rattle.std.proofs.Common.{ap}
-use Rattle.clk_tool.proofs.Made.{word_local, word_tick, word_pause_cast}
+use Rattle.clk_tool.proofs.Made.{word_local, word_remote, word_tick, word_pause_cast}
 use Rattle.clk_tool.proofs.thread.Thread.word.Goals as goal
 
 pub returns-in-Local : goal.returns-in-Local
 returns-in-Local c = rw c.in-Local.is (word_local _ _ _ _ c.local.ensures.made c.local.ensures.drawn)
+
+pub returns-in-Remote : goal.returns-in-Remote
+returns-in-Remote c =
+    let range = rw c.in-Remote.is at c.requires.range in
+    rw c.in-Remote.is (word_remote _ _ _ _ _ range c.local-in-Remote.ensures.made c.local-in-Remote.ensures.drawn)
 
 pub returns-in-Tick : goal.returns-in-Tick
 returns-in-Tick c =

@@ -1,0 +1,13 @@
+use Rattle.std.proofs.Common.{◌≡◌, ◌-◌}
+use Rattle.clk_latch.specs.Turns.{Went}
+use Rattle.clk_latch.proofs.latch.Latch.current.Given as goal
+
+abbrev pub invariant-loop-turn : goal.invariant-loop-turn
+invariant-loop-turn l = record {
+  own : l.seat.table_id ≡ l.initial.seat.table_id;
+  went : Went l.initial.seat.me l.seat.me;
+}
+
+-- each turn but the last saw a greater sequence at its end
+abbrev pub decreases-loop-turn : goal.decreases-loop-turn
+decreases-loop-turn l = 2049 - l.seat.me.0.seen

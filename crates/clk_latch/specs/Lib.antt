@@ -1,0 +1,6 @@
+pub mod Epoch
+pub mod Calls
+pub mod Kept
+pub mod Seated
+pub mod Turns
+pub mod Laws

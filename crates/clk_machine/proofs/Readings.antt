@@ -1,0 +1,115 @@
+-- How far records and readings go: each adds what the counter travelled.
+use Rattle.std.proofs.Common.{◌≡◌, ℕ, ◌+◌, ◌-◌, ◌*◌, ◌^◌, ◌<◌, ◌≤◌, ℤ, pos, List, [], ◌∷◌, get_or, refl, arith}
+use Rattle.std.specs.List.{All}
+use Rattle.std.proofs.lemmas.Int.{ints}
+use Rattle.std.proofs.lemmas.List.Elements.{All-cons}
+use Rattle.clk_num.specs.Range.{IsNear}
+use Rattle.clk_num.specs.Masked.{masked_delta}
+use Rattle.clk_machine.specs.Plan.{Plan, count_of}
+use Rattle.clk_machine.specs.Limits.{AreInRange}
+use Rattle.clk_machine.specs.Time.{counter_at, shown}
+use Rattle.clk_machine.specs.Records.{record_zero, raw_by, IsNextRecord, AreNextRecords, AreRecords}
+use Rattle.clk_machine.specs.Laws.{IsAdjusted, AreInOrder, IsFrom0To, CountersAreSmall, RecordsAreSmall, ReadingsAreSmall}
+use Rattle.clk_machine.specs.declared.reading.Published.{Published}
+use Rattle.clk_machine.proofs.Bounds.{convert_small, count_of_cpu, count_small, counter_small, masked_small}
+use Rattle.clk_machine.proofs.Travel.{travel, travel_few, differ_by_travel}
+
+pub counters_are_small : CountersAreSmall
+counters_are_small m cpu adjust k a h = counter_small m cpu adjust k a.limits a.there a.near h
+
+-- what a record adds at most for a counter value that is not far
+added : (m : Plan) (p : Published) (cyc most far : ℕ) → AreInRange m → IsFrom0To most p.ns
+    → masked_delta cyc p.cyc (count_of m.bits) ≤ far → IsFrom0To (most + 1024 * far) (raw_by m p cyc)
+added m p cyc most far r (low, high) less =
+    let some = convert_small m (masked_delta cyc p.cyc (count_of m.bits)) r in
+    (omega (arith, ints), omega (arith, ints))
+
+from_0_to_more : (a b : ℕ) (ns : ℤ) → a ≤ b → IsFrom0To a ns → IsFrom0To b ns
+from_0_to_more a b ns h (low, high) = (low, omega (arith, ints))
+
+-- a record that shows the CPU's own counter, as all after record 0 do
+record IsOwnRecord (m : Plan) (cpu : ℕ) (adjust : ℤ) (p : Published) : Type 0 where
+  counter : p.cyc ≡ counter_at m cpu adjust p.ticket
+  ticket : p.ticket < 2 ^ 24
+  few : IsFrom0To (41 * 2 ^ 52 + 1024 * travel m cpu p.ticket) p.ns
+
+own_next : (m : Plan) (cpu : ℕ) (adjust : ℤ) (last p : Published) → IsAdjusted m cpu adjust → IsOwnRecord m cpu adjust last
+    → IsNextRecord m cpu adjust last p → last.ticket ≤ p.ticket → p.ticket < 2 ^ 24 → IsOwnRecord m cpu adjust p
+own_next m cpu adjust last p a own n later small =
+    let way = differ_by_travel m cpu adjust last.ticket p.ticket a.limits.ranges later in
+    let less : masked_delta p.cyc last.cyc (count_of m.bits) ≤ travel m cpu p.ticket - travel m cpu last.ticket = rw (n.counter, own.counter) (omega (arith, way)) in
+    let more = added m last p.cyc (41 * 2 ^ 52 + 1024 * travel m cpu last.ticket) (travel m cpu p.ticket - travel m cpu last.ticket) a.limits.ranges own.few less in
+    let wider = from_0_to_more _ (41 * 2 ^ 52 + 1024 * travel m cpu p.ticket) (raw_by m last p.cyc) (omega (arith, way)) more in
+    record { counter = n.counter; ticket = small; few = rw n.time wider }
+
+-- what holds of all records: each shows a count that is not far, and its ns are few
+record IsSmallRecord (m : Plan) (p : Published) : Type 0 where
+  count : ℤ
+  counter : p.cyc ≡ shown m.bits count
+  far : count_of count ≤ 41 * 2 ^ 42
+  few : IsFrom0To (46 * 2 ^ 52) p.ns
+
+own_small : (m : Plan) (cpu : ℕ) (adjust : ℤ) (p : Published) → IsAdjusted m cpu adjust → IsOwnRecord m cpu adjust p → IsSmallRecord m p
+own_small m cpu adjust p a own =
+    let few = travel_few m cpu p.ticket a.limits.ranges a.there own.ticket in
+    record {
+      count = count_of_cpu m cpu adjust p.ticket;
+      counter = own.counter;
+      far = count_small m cpu adjust p.ticket a.limits a.there a.near own.ticket;
+      few = from_0_to_more _ (46 * 2 ^ 52) p.ns (omega (arith, few)) own.few;
+    }
+
+later_small : (m : Plan) (cpu : ℕ) (adjust : ℤ) (last : Published) (ps : List Published) → IsAdjusted m cpu adjust → IsOwnRecord m cpu adjust last
+    → AreNextRecords m cpu adjust last ps → AreInOrder last.ticket ps → All (IsSmallRecord m) ps
+later_small m cpu adjust last [] a own n o = λ k d h. absurd (omega arith)
+later_small m cpu adjust last (p ∷ ps) a own (n, next) (later, small, order) =
+    let here = own_next m cpu adjust last p a own n later small in
+    All-cons (IsSmallRecord m) p ps (own_small m cpu adjust p a here) (later_small m cpu adjust p ps a here next order)
+
+zero_near : IsNear 47 (pos 0)
+zero_near = (omega (arith, ints), omega (arith, ints))
+
+zero_small : (m : Plan) (cpu : ℕ) (adjust : ℤ) → IsAdjusted m cpu adjust → IsSmallRecord m (record_zero m)
+zero_small m cpu adjust a =
+    record {
+      count = count_of_cpu m 0 (pos 0) 0;
+      counter = refl;
+      far = count_small m 0 (pos 0) 0 a.limits (omega (arith, a.there)) zero_near (omega arith);
+      few = (omega (arith, ints), omega (arith, ints));
+    }
+
+-- the first update goes on from the counter of CPU 0
+own_first : (m : Plan) (cpu : ℕ) (adjust : ℤ) (p : Published) → IsAdjusted m cpu adjust → IsNextRecord m cpu adjust (record_zero m) p
+    → p.ticket < 2 ^ 24 → IsOwnRecord m cpu adjust p
+own_first m cpu adjust p a n small =
+    let far = count_small m cpu adjust p.ticket a.limits a.there a.near small in
+    let near = count_small m 0 (pos 0) 0 a.limits (omega (arith, a.there)) zero_near (omega arith) in
+    let most = masked_small m (count_of_cpu m cpu adjust p.ticket) (count_of_cpu m 0 (pos 0) 0) (41 * 2 ^ 42) a.limits.ranges far near in
+    let less : masked_delta p.cyc (counter_at m 0 (pos 0) 0) (count_of m.bits) ≤ 41 * 2 ^ 42 = rw n.counter most in
+    let more = added m (record_zero m) p.cyc 0 (41 * 2 ^ 42) a.limits.ranges (omega (arith, ints), omega (arith, ints)) less in
+    let wider = from_0_to_more _ (41 * 2 ^ 52 + 1024 * travel m cpu p.ticket) (raw_by m (record_zero m) p.cyc) (omega arith) more in
+    record { counter = n.counter; ticket = small; few = rw n.time wider }
+
+updates_small : (m : Plan) (cpu : ℕ) (adjust : ℤ) (ps : List Published) → IsAdjusted m cpu adjust → AreNextRecords m cpu adjust (record_zero m) ps
+    → AreInOrder 0 ps → All (IsSmallRecord m) ps
+updates_small m cpu adjust [] a n o = λ k d h. absurd (omega arith)
+updates_small m cpu adjust (p ∷ ps) a (n, next) (later, small, order) =
+    let here = own_first m cpu adjust p a n small in
+    All-cons (IsSmallRecord m) p ps (own_small m cpu adjust p a here) (later_small m cpu adjust p ps a here next order)
+
+all_small : (m : Plan) (cpu : ℕ) (adjust : ℤ) (records : List Published) → IsAdjusted m cpu adjust → AreRecords m cpu adjust records
+    → AreInOrder 0 records → All (IsSmallRecord m) records
+all_small m cpu adjust records a r o =
+    let (zero_late, low, order) = rw r.all at o in
+    rw r.all (All-cons (IsSmallRecord m) (record_zero m) r.updates (zero_small m cpu adjust a) (updates_small m cpu adjust r.updates a r.next order))
+
+pub records_are_small : RecordsAreSmall
+records_are_small m cpu adjust records a r o = λ k d h. (all_small m cpu adjust records a r o k d h).few
+
+pub readings_are_small : ReadingsAreSmall
+readings_are_small m cpu adjust records r a all o small right =
+    let p = all_small m cpu adjust records a all o r.rec (record_zero m) right.number in
+    let far = count_small m cpu adjust r.ticket a.limits a.there a.near small in
+    let most = masked_small m (count_of_cpu m cpu adjust r.ticket) p.count (41 * 2 ^ 42) a.limits.ranges far p.far in
+    let less : masked_delta r.cyc (get_or records r.rec (record_zero m)).cyc (count_of m.bits) ≤ 41 * 2 ^ 42 = rw (right.counter, p.counter) most in
+    rw right.time (added m (get_or records r.rec (record_zero m)) r.cyc (46 * 2 ^ 52) (41 * 2 ^ 42) a.limits.ranges p.few less)

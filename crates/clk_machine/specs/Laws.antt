@@ -1,0 +1,39 @@
+-- How far counters, records and readings of a run go, by the limits alone.
+use Rattle.std.specs.Prelude.{ℕ, ◌*◌, ◌^◌, ◌<◌, ◌≤◌, ℤ, pos, ◌≤ℤ◌, List, [], ◌∷◌}
+use Rattle.std.specs.List.{All}
+use Rattle.clk_num.specs.Range.{IsNear}
+use Rattle.clk_machine.specs.declared.reading.RawReading.{RawReading}
+use Rattle.clk_machine.specs.declared.reading.Published.{Published}
+use Rattle.clk_machine.specs.Plan.{Plan, cpu_count}
+use Rattle.clk_machine.specs.Limits.{IsWithinLimits}
+use Rattle.clk_machine.specs.Time.{counter_at}
+use Rattle.clk_machine.specs.Records.{AreRecords, IsRightReading}
+
+-- a CPU of a machine, and an adjustment that a bring-up may give it
+pub record IsAdjusted (m : Plan) (cpu : ℕ) (adjust : ℤ) : Type 0 where
+  pub limits : IsWithinLimits m
+  pub there : cpu < cpu_count m
+  pub near : IsNear 47 adjust
+
+-- records were made at tickets of a run, each no earlier than the one before
+abbrev pub AreInOrder : ℕ → List Published → Type 0
+AreInOrder last [] = Unit {0}
+AreInOrder last (p ∷ records) = (last ≤ p.ticket) × (p.ticket < 2 ^ 24) × AreInOrder p.ticket records
+
+abbrev pub CountersAreSmall : Type 0
+CountersAreSmall = (m : Plan) (cpu : ℕ) (adjust : ℤ) (k : ℕ) → IsAdjusted m cpu adjust → k < 2 ^ 24 → counter_at m cpu adjust k ≤ 41 * 2 ^ 42
+
+-- a count of ns from 0 to this many
+abbrev pub IsFrom0To : ℕ → ℤ → Type 0
+IsFrom0To most ns = (pos 0 ≤ℤ ns) × (ns ≤ℤ pos most)
+
+abbrev pub RecordsAreSmall : Type 0
+RecordsAreSmall =
+    (m : Plan) (cpu : ℕ) (adjust : ℤ) (records : List Published) → IsAdjusted m cpu adjust → AreRecords m cpu adjust records
+    → AreInOrder 0 records → All (λ p. IsFrom0To (46 * 2 ^ 52) p.ns) records
+
+-- no raw reading is negative, and all are far below 2^59 ns
+abbrev pub ReadingsAreSmall : Type 0
+ReadingsAreSmall =
+    (m : Plan) (cpu : ℕ) (adjust : ℤ) (records : List Published) (r : RawReading) → IsAdjusted m cpu adjust → AreRecords m cpu adjust records
+    → AreInOrder 0 records → r.ticket < 2 ^ 24 → IsRightReading m cpu adjust records r → IsFrom0To (87 * 2 ^ 52) r.ns

@@ -1,0 +1,86 @@
+-- A machine whose every form is built has one thread.
+use Rattle.std.proofs.Common.{◌≡◌, ℕ, zero, suc, ◌+◌, ◌^◌, ◌≤◌, ◌==◌, Bool, true, false, not, ◌&&◌, List, [], ◌∷◌, length, Option, Some, None, refl, arith}
+use Rattle.std.specs.List.{All, sum_by, repeat, list_all}
+use Rattle.std.specs.Option.{is_none}
+use Rattle.std.proofs.lemmas.Bool.Decides.{nat_tests}
+use Rattle.std.proofs.lemmas.List.Elements.{All-nil, All-append}
+use Rattle.clk_machine.specs.Plan.{Plan, CpuPlan, count_of, cpu_count, all_words, threads_of}
+use Rattle.clk_machine.specs.Limits.{IsInRange, IsCpu, IsWithinLimits}
+use Rattle.clk_machine.specs.Tickets.{tickets_of}
+use Rattle.clk_tool.specs.Built.{words_of, is_built_word, is_built}
+
+All-repeat : {A : Type 0} (P : A → Type 0) (n : ℕ) (xs : List A) → All P xs → All P (repeat n xs)
+All-repeat P zero xs all = All-nil P
+All-repeat P (suc n) xs all = All-append P xs (repeat n xs) all (All-repeat P n xs all)
+
+both : (a b : Bool) → (a && b) ≡ true → (a ≡ true) × (b ≡ true)
+both true b h = (refl, h)
+both false b h = absurd (cc)
+
+one_item : {A : Type 0} (xs : List A) → (length xs == 1) ≡ true → (x : A) × (xs ≡ x ∷ [])
+one_item [] h = absurd (cc)
+one_item (x ∷ []) h = (x, refl)
+one_item (x ∷ y ∷ xs) h = let e : suc (suc (length xs)) ≡ 1 = grind (arith, nat_tests) in absurd (omega (arith, e))
+
+no_item : {A : Type 0} (xs : List A) → (length xs == 0) ≡ true → xs ≡ []
+no_item [] h = refl
+no_item (x ∷ xs) h = let e : suc (length xs) ≡ 0 = grind (arith, nat_tests) in absurd (omega (arith, e))
+
+none_there : {A : Type 0} (o : Option A) → is_none o ≡ true → o ≡ None
+none_there None h = refl
+none_there (Some x) h = absurd (cc)
+
+not_so : (b : Bool) → not b ≡ true → b ≡ false
+not_so true h = absurd (cc)
+not_so false h = refl
+
+-- what the test says, part by part
+pub record IsOneThread (m : Plan) : Type 0 where
+  pub cpu : CpuPlan
+  pub cpus : m.cpu ≡ cpu ∷ []
+  pub readers : m.reader ≡ []
+  pub words : list_all is_built_word (words_of m) ≡ true
+  pub bringup : m.bringup ≡ None
+  pub watchdog : m.watchdog ≡ None
+  pub percpu : m.stable ≡ false
+
+pub one_thread : (m : Plan) → is_built m ≡ true → IsOneThread m
+one_thread m h =
+    let (front, back) = both (cpu_count m == 1 && length m.reader == 0 && list_all is_built_word (words_of m))
+    (is_none m.bringup && is_none m.watchdog && length m.source == 0 && not m.stable) h in
+    let (two, words) = both (cpu_count m == 1 && length m.reader == 0) (list_all is_built_word (words_of m)) front in
+    let (one, readers) = both (cpu_count m == 1) (length m.reader == 0) two in
+    let (three, percpu) = both (is_none m.bringup && is_none m.watchdog && length m.source == 0) (not m.stable) back in
+    let (nones, sources) = both (is_none m.bringup && is_none m.watchdog) (length m.source == 0) three in
+    let (bringup, watchdog) = both (is_none m.bringup) (is_none m.watchdog) nones in
+    let (c, is) = one_item m.cpu one in
+    record {
+      cpu = c;
+      cpus = is;
+      readers = no_item m.reader readers;
+      words = words;
+      bringup = none_there m.bringup bringup;
+      watchdog = none_there m.watchdog watchdog;
+      percpu = not_so m.stable percpu;
+    }
+
+pub threads_one : (m : Plan) → IsOneThread m → threads_of m ≡ (0, words_of m) ∷ []
+threads_one m o = rw (o.cpus, o.readers) refl
+
+pub words_one : (m : Plan) (o : IsOneThread m) → words_of m ≡ all_words o.cpu.script
+words_one m o = rw o.cpus refl
+
+cpu_in_range : (m : Plan) (o : IsOneThread m) → IsWithinLimits m → IsCpu 1 o.cpu
+cpu_in_range m o l = let all = rw o.cpus at l.ranges.cpu in all 0 o.cpu (omega arith)
+
+pub words_few : (m : Plan) → IsOneThread m → IsWithinLimits m → length (words_of m) ≤ 65536
+words_few m o l = rw (words_one m o) (cpu_in_range m o l).script.few
+
+pub words_in_range : (m : Plan) → IsOneThread m → IsWithinLimits m → All (IsInRange 1) (words_of m)
+words_in_range m o l =
+    rw (words_one m o) (All-repeat (IsInRange 1) (count_of o.cpu.script.repeat) o.cpu.script.words (cpu_in_range m o l).script.range)
+
+pub tickets_few : (m : Plan) → IsOneThread m → IsWithinLimits m → 3 + sum_by tickets_of (words_of m) ≤ 2 ^ 24
+tickets_few m o l =
+    let all = rw (o.bringup, o.watchdog, o.percpu, threads_one m o) at l.tickets in
+    omega (arith, all)
