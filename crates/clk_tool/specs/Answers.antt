@@ -23,11 +23,12 @@ exit_code_of (Refused r) = 3
 exit_code_of WriteFault = 4
 exit_code_of Memory = 5
 
--- the bytes of the file came to their end, and are this machine
+-- the bytes of the file came to their end, and are this machine, whose every form is built
 pub record CameMachine (limit : ℕ) (before after : Option (List ℕ)) (m : Plan) : Type 0 where
   pub bytes : List ℕ
   pub came : Came limit before after bytes
   pub machine : accepted bytes ≡ Ok m
+  pub built : is_built m ≡ true
 
 -- the text of a lawful trace of the machine was written so
 pub record Traced (m : Plan) (Written : List ℕ → Type 0) : Type 0 where

@@ -63,7 +63,6 @@ pub fn clock_tool<R, S: Source, K: Sink, G: Gate>(
 /// The machine that a source describes. The error is the answer of the program.
 fn machine_of<S: Source>(alloc: Global, source: &mut S) -> Result<Machine, Status>
     ensures ok { IfOk result (CameMachine LIMIT (S.rest source.old) (S.rest source.new)) }
-    ensures built { IfOk result (λ m. is_built m ≡ true) }
     ensures read_fault { result ≡ Err Status.ReadFault → Rose (S.faults source.old) (S.faults source.new) }
     ensures refused { (refusal : Refusal) → result ≡ Err (Status.Refused refusal) →
         IsCause LIMIT (S.rest source.old) (S.rest source.new) refusal }
