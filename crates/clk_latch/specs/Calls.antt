@@ -1,10 +1,10 @@
 -- What each call does to a seat, whatever latch it belongs to.
-use Rattle.std.specs.Prelude.{◌≡◌, ℕ, ◌+◌, ◌-◌, ◌*◌, ◌^◌, ◌<◌, ◌≤◌, max, true, false, ◌||◌, ◌&&◌, ℤ, pos, List, [], ◌∷◌, ◌++◌, length, slice_index_or}
+use Rattle.std.specs.Prelude.{◌≡◌, ℕ, ◌+◌, ◌-◌, ◌*◌, ◌^◌, ◌<◌, max, true, false, ◌||◌, ◌&&◌, ℤ, pos, List, [], ◌∷◌, ◌++◌, length, slice_index_or}
 use Rattle.std.specs.List.{All}
 use mathlib.Core.List.{IsPrefix}
 use Rattle.clk_base.specs.declared.block.Block.{Block}
-use Rattle.clk_base.specs.Blocks.{AllEndBy, Rises, times_in}
-use Rattle.clk_ticket.specs.Time.{Time, after_draw, share_of}
+use Rattle.clk_base.specs.Blocks.{times_in}
+use Rattle.clk_ticket.specs.Time.{Time, Draws}
 use Rattle.clk_machine.specs.Plan.{Plan}
 use Rattle.clk_machine.specs.Limits.{IsWithinLimits}
 use Rattle.clk_machine.specs.Laws.{IsFrom0To}
@@ -21,14 +21,9 @@ pub record IsRecordZero (zero : Published) : Type 0 where
   pub cyc : zero.cyc ≡ (record_zero machine).cyc
   pub ns : zero.ns ≡ (record_zero machine).ns
 
--- one ticket was drawn, above all that the seat had seen
-pub record DrawsTicket (before : Time) (ticket : ℕ) (after : Time) : Type 0 where
-  pub is : after ≡ after_draw before ticket 1
-  pub later : before.seen ≤ ticket
-  pub above : AllEndBy before.seen before.blocks
-  pub rises : Rises before.blocks → Rises after.blocks
-  pub bound : ticket < 2 ^ 24
-  pub share : share_of after ≡ share_of before
+-- one ticket was drawn
+abbrev pub DrawsTicket : Time → ℕ → Time → Type 0
+DrawsTicket before ticket after = Draws before ticket 1 after
 
 -- the tickets of the records after record 0 are among the blocks
 abbrev pub AreDrawn : List Block → List Published → Type 0

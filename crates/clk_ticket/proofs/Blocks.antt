@@ -8,6 +8,7 @@ use Rattle.clk_base.specs.declared.block.Block.{Block}
 use Rattle.clk_base.specs.Blocks.{end_of, once_below, in_block, times_in, Rises}
 use Rattle.clk_base.specs.Blocks.{AllEndBy}
 use Rattle.clk_ticket.specs.Sizes.{size_of}
+use Rattle.clk_ticket.specs.Time.{Time, after_draw, share_of}
 
 -- a block from m to n, and the numbers below m
 in_next : (x m n : ℕ) → m ≤ n → (once_below x n - once_below x m) + once_below x m ≡ once_below x n
@@ -53,3 +54,7 @@ rises_more m first n (b ∷ bs) up h r =
       All-push (λ c. end_of b ≤ c.first) bs (record { first = first; count = n }) r.0 (omega arith),
       rises_more m first n bs up (All-tail (λ c. end_of c ≤ m) b bs h) r.1,
     )
+
+-- a draw takes from the budget what it adds to the blocks
+pub share_drawn : (t : Time) (first n : ℕ) → n ≤ t.left → share_of (after_draw t first n) ≡ share_of t
+share_drawn t first n within = omega (arith, within, sum_by_push (λ (b : Block). b.count) t.blocks (record { first = first; count = n }))

@@ -70,7 +70,7 @@ draws total slots id k me within s kept homes at small =
         cover = λ x. block_more x m k me.0.blocks;
         behind = (omega arith, ends_more me.0.seen m k me.0.blocks behind.0 behind.1);
       })),
-      record { is = refl; later = behind.0; bound = omega (arith, kept.bound) },
+      record { is = refl; later = behind.0; budget = omega (arith, kept.bound); bound = omega (arith, kept.bound) },
     )
 
 -- a load

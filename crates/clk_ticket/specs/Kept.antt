@@ -45,6 +45,7 @@ knows_both v w = record { left = v.left + w.left; blocks = v.blocks ++ w.blocks;
 pub record Drew (st : Step (Unit {0})) (before : Me (Unit {0}) Knows) (found : ℕ) (after : Me (Unit {0}) Knows) : Type 0 where
   pub is : after ≡ (knows_more found st.first before.0, before.1)
   pub later : before.0.seen ≤ found
+  pub budget : found + before.0.left ≤ 2 ^ 24
   pub bound : found + st.first ≤ 2 ^ 24
 
 -- a load that changes nothing

@@ -1,8 +1,6 @@
 //! What threads do with their seats.
-ghost use Rattle.std.specs.Prelude.{◌≡◌, ◌+◌, ◌^◌, ◌≤◌};
-ghost use Rattle.clk_base.specs.Blocks.{Rises};
-ghost use Rattle.clk_base.specs.Blocks.{AllEndBy};
-ghost use Rattle.clk_ticket.specs.Time.{share_of, fresh, after_draw, without, both_of};
+ghost use Rattle.std.specs.Prelude.{◌≡◌, ◌+◌, ◌≤◌};
+ghost use Rattle.clk_ticket.specs.Time.{share_of, fresh, Draws, without, both_of};
 
 use crate::rule::{Both, Cut, Draw, Look, Part};
 use crate::seat::TimeSeat;
@@ -16,12 +14,7 @@ impl TicketTable {
     pub fn draw(&self, seat: &mut TimeSeat, n: u64) -> u64
         requires own { seat.old.table ≡ self.now.table }
         requires within { (1 ≤ n) × (n ≤ seat.old.left) }
-        ensures seat { seat.new ≡ after_draw seat.old result n }
-        ensures later { seat.old.seen ≤ result }
-        ensures above { AllEndBy seat.old.seen seat.old.blocks }
-        ensures rises { Rises seat.old.blocks → Rises seat.new.blocks }
-        ensures bound { result + n ≤ 2 ^ 24 }
-        ensures share { share_of seat.new ≡ share_of seat.old }
+        ensures { Draws seat.old result n seat.new }
     {
         seat.left -= n;
         self.table.shared.fetch_add::<Draw>(&mut seat.seat, 0, n)

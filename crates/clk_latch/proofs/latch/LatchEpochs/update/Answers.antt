@@ -64,4 +64,4 @@ returns-clause-drawn c =
     c.draw-ticket.result c.cycles_at-cyc.result c.ns_since.result c.seat.view_is c.seat.invariant c.requires.owner c.unwrap-last.ensures
     (record { limits = c.cycles_at-cyc.ensures.limits; there = c.requires.cpu; near = c.requires.adjust })
     c.requires.records c.requires.drawn drew.above drew.later drew.bound (search rules) c.ns_since.ensures.value c.ns_since.ensures.bound in
-    drawn_after c.seat.inside.seat.me.0 c.seat.inside.seat.me.1 p c.args.time.now c.draw-ticket.new.seat c.publish.new.seat.me drew.seat c.publish.ensures.is made.update.drawn
+    drawn_after c.seat.inside.seat.me.0 c.seat.inside.seat.me.1 p c.args.time.now c.draw-ticket.new.seat c.publish.new.seat.me drew.is c.publish.ensures.is made.update.drawn
