@@ -1,3 +1,4 @@
 pub mod Lines
 pub mod Drawn
 pub mod Firsts
+pub mod Rising

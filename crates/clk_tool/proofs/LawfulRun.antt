@@ -1,16 +1,19 @@
 -- The trace of a run is lawful.
-use Rattle.std.proofs.Common.{◌≡◌, ◌≤◌, List, [], ◌∷◌, ◌++◌, refl, arith, append-nil}
+use Rattle.std.proofs.Common.{◌≡◌, pos, List, [], ◌∷◌, ◌++◌, ap, ◌∙◌, sym, subst, refl, arith, append-nil}
 use Rattle.std.proofs.lemmas.Int.{ints}
-use Rattle.std.proofs.lemmas.List.Elements.{All-nil, All-cons, All-weaker}
+use Rattle.std.proofs.lemmas.List.Elements.{All-nil, All-cons}
 use Rattle.std.specs.List.{All, flat_map}
 use Rattle.std.specs.List.Sorted.{IsPermutation}
 use Rattle.clk_base.specs.declared.block.Block.{Block}
-use Rattle.clk_base.specs.Blocks.{end_of, Follows, Rises}
-use Rattle.clk_base.proofs.Drawn.{follows_cover, follows_rises, follows_above, follows-append}
+use Rattle.clk_base.specs.Blocks.{Covers, Rises}
+use Rattle.clk_base.proofs.Rising.{rises_front, rises_back, rises_apart}
 use Rattle.clk_num.specs.Listed.{Listed}
-use Rattle.clk_machine.specs.Plan.{Plan}
-use Rattle.clk_trace.specs.TicketOrder.{one, blocks_of, boot_blocks, IsTicketOrder}
-use Rattle.clk_trace.specs.RightReadings.{HasRightReadings, IsRightStamp}
+use Rattle.clk_machine.specs.Plan.{Plan, cpu_count}
+use Rattle.clk_machine.specs.Records.{record_zero, AreRecords}
+use Rattle.clk_machine.specs.declared.reading.Published.{Published}
+use Rattle.clk_trace.specs.TicketOrder.{blocks_of, boot_blocks, IsTicketOrder}
+use Rattle.clk_trace.specs.Updates.{updates_of, records_of, named_by, NamesUpdates, NoneFalls}
+use Rattle.clk_trace.specs.RightReadings.{HasRightReadings, IsRightKind, IsRightStamp}
 use Rattle.clk_trace.specs.WordHistory.{Step, steps_from}
 use Rattle.clk_trace.specs.LegalHistory.{NamesLastStamps}
 use Rattle.clk_trace.specs.LawfulTrace.{HasLegalHistories, IsLawful}
@@ -18,12 +21,10 @@ use Rattle.clk_trace.specs.declared.event.Event.{Event}
 use Rattle.clk_trace.specs.declared.trace.StableStamp.{StableStamp}
 use Rattle.clk_trace.specs.declared.trace.Trace.{Trace}
 use Rattle.clk_tool.specs.Built.{words_of}
-use Rattle.clk_tool.specs.Running.{Runs}
 use Rattle.clk_tool.specs.Booting.{IsRunOf}
-use Rattle.clk_tool.specs.declared.clock.Clock.{Clock}
 use Rattle.clk_tool.proofs.OneThread.{one_thread, threads_one}
-use Rattle.clk_tool.proofs.RunTickets.{runs_follow}
-use Rattle.clk_tool.proofs.RunReadings.{runs_right, runs_name}
+use Rattle.clk_tool.proofs.RunBlocks.{runs_blocks}
+use Rattle.clk_tool.proofs.RunReadings.{records_in, runs_records, runs_right, runs_number, runs_name}
 use Rattle.clk_tool.proofs.RunHistory.{runs_chain, runs_sorted, script_calls}
 use Rattle.clk_tool.proofs.RunSeen.{runs_never_fall}
 
@@ -31,41 +32,51 @@ use Rattle.clk_tool.proofs.RunSeen.{runs_never_fall}
 same_list : {A : Type 0} (xs : List A) → IsPermutation xs xs
 same_list xs = record { moves = []; below = tt; is = refl }
 
--- the boot draws 0, 1 and 2
-boot_follows : (s : StableStamp) → s.gtod_ticket ≡ 1 → s.raw.ticket ≡ 2 → Follows 0 (boot_blocks 0 (s ∷ [])) 3
-boot_follows s g r = (refl, (g, (rw (r, g), rw r)))
+-- the time seat has the blocks of the boot, and then those of the thread
+all_blocks : (m : Plan) (t : Trace) (r : IsRunOf m t)
+    → boot_blocks 0 (r.boot.stamp ∷ []) ++ flat_map blocks_of r.events.items ≡ r.after.time.blocks
+all_blocks m t r =
+    sym (runs_blocks m r.boot.clock r.events.items r.after r.runs ∙ ap (λ (bs : List Block). bs ++ flat_map blocks_of r.events.items) r.booted.opened.blocks)
 
--- what ends by 3 ends before a block from 3 on
-boot_below : (s : StableStamp) (b : Block) → s.gtod_ticket ≡ 1 → s.raw.ticket ≡ 2 → 3 ≤ b.first → All (λ a. end_of a ≤ b.first) (boot_blocks 0 (s ∷ []))
-boot_below s b g r low =
-    let P : Block → Type 0 = λ a. end_of a ≤ b.first in
-    All-cons P (one 0) (one s.gtod_ticket ∷ one s.raw.ticket ∷ []) (omega arith)
-    (All-cons P (one s.gtod_ticket) (one s.raw.ticket ∷ []) (rw g (omega arith)) (All-cons P (one s.raw.ticket) [] (rw r (omega arith)) (All-nil P)))
-
-ticket_order : (m : Plan) (s : StableStamp) (start : Clock) (events : Listed Event) (after : Clock) → s.gtod_ticket ≡ 1 → s.raw.ticket ≡ 2 → start.next ≡ 3
-    → Runs m start events.items after → IsTicketOrder (boot_blocks 0 (s ∷ [])) (events ∷ []) after.next
-ticket_order m s start events after g r three runs =
-    let boot = boot_follows s g r in
-    let own = rw three at (runs_follow m start events.items after runs) in
-    let blocks : List Block = flat_map blocks_of events.items in
+ticket_order : (m : Plan) (t : Trace) (r : IsRunOf m t) → IsTicketOrder (boot_blocks 0 (r.boot.stamp ∷ [])) (r.events ∷ []) t.tickets
+ticket_order m t r =
+    let boot : List Block = boot_blocks 0 (r.boot.stamp ∷ []) in
+    let own : List Block = flat_map blocks_of r.events.items in
+    let rise : Rises (boot ++ own) = subst Rises (sym (all_blocks m t r)) r.ready.rises in
     record {
-      covers = rw append-nil (follows_cover (boot_blocks 0 (s ∷ []) ++ blocks) after.next (follows-append 0 3 after.next (boot_blocks 0 (s ∷ [])) blocks boot own));
-      boot_rises = follows_rises 0 (boot_blocks 0 (s ∷ [])) 3 boot;
-      boot_first =
-          rw append-nil (All-weaker (λ b. 3 ≤ b.first) (λ b. All (λ a. end_of a ≤ b.first) (boot_blocks 0 (s ∷ []))) (λ b low. boot_below s b g r low) blocks
-          (follows_above 3 3 blocks after.next own (omega arith)));
-      threads_rise = All-cons (λ es. Rises (flat_map blocks_of es.items)) events [] (follows_rises 3 blocks after.next own) (All-nil (λ es. Rises (flat_map blocks_of es.items)));
+      covers = rw append-nil (subst (λ (bs : List Block). Covers bs t.tickets) (sym (all_blocks m t r)) r.finished);
+      boot_rises = rises_front boot own rise;
+      boot_first = rw append-nil (rises_apart boot own rise);
+      threads_rise = All-cons (λ es. Rises (flat_map blocks_of es.items)) r.events [] (rises_back boot own rise) (All-nil (λ es. Rises (flat_map blocks_of es.items)));
     }
+
+-- the owner's records are record 0 and its updates
+all_records : (m : Plan) (t : Trace) (r : IsRunOf m t) → record_zero m ∷ updates_of r.events.items ≡ records_in r.after
+all_records m t r =
+    let zero : records_in r.boot.clock ≡ record_zero m ∷ [] = rw r.booted.machine at r.booted.opened.epoch in
+    sym (runs_records m r.boot.clock r.events.items r.after r.runs r.booted.opened.ready.owner ∙ ap (λ (ps : List Published). ps ++ updates_of r.events.items) zero)
 
 readings : (m : Plan) (t : Trace) (r : IsRunOf m t) → HasRightReadings m t
 readings m t r =
+    let owner = r.booted.opened.ready.owner in
+    let one = one_thread m r.built in
+    let cpus : cpu_count m ≡ 1 = rw one.cpus refl in
+    let own : records_of m (r.events ∷ []) 0 ≡ records_in r.after = rw append-nil (all_records m t r) in
+    let are : AreRecords m 0 (pos 0) (records_in r.after) = rw r.booted.machine at r.ready.records in
     record {
-      boots =
-          rw r.boots (All-cons (IsRightStamp m) r.stamp [] (rw (r.booted.gtod_ticket, r.booted.gtod) refl, r.booted.right) (All-nil (IsRightStamp m)));
-      threads = rw (r.cpu_of, r.threads) (runs_right m r.start r.events.items r.after r.runs, tt);
-      tickets =
-          rw (r.epoch_ticket, r.boots, r.threads, r.tickets)
-          (ticket_order m r.stamp r.start r.events r.after r.booted.gtod_ticket r.booted.ticket r.booted.next r.runs);
+      boots = rw r.boots (All-cons (IsRightStamp m) r.boot.stamp [] (rw r.booted.machine at r.booted.opened.right) (All-nil (IsRightStamp m)));
+      records = λ cpu low.
+          let first : cpu ≡ 0 = omega (arith, low, cpus) in
+          rw (r.threads, first) (subst (AreRecords m 0 (pos 0)) (sym own) are);
+      threads =
+          rw (r.cpu_of, r.threads) (
+            subst (λ (ps : List Published). All (λ e. IsRightKind m 0 ps e.kind) r.events.items) (sym own)
+                (runs_right m r.boot.clock r.events.items r.after r.runs owner),
+            tt,
+          );
+      owners = rw (r.threads, cpus) (All-cons (λ es. NamesUpdates 0 es.items) r.events [] (runs_number m r.boot.clock r.events.items r.after 0 r.runs owner (rw r.booted.opened.epoch refl)) (All-nil (λ es. NamesUpdates 0 es.items)));
+      readers = rw (r.threads, cpus) (All-nil (λ es. NoneFalls (named_by es.items)));
+      tickets = rw (r.epoch_ticket, r.booted.epoch, r.boots, r.threads) (ticket_order m t r);
     }
 
 -- the steps of the one thread, all of them on the one word
@@ -81,18 +92,18 @@ histories m t r =
                 ordered = steps;
                 all = same_list steps;
                 printed = r.steps;
-                sorted = rw r.steps (runs_sorted m r.start r.events.items r.after 0 0 r.runs (script_calls 0 (words_of m) r.events.items r.script));
+                sorted = rw r.steps (runs_sorted m r.boot.clock r.events.items r.after 0 0 r.runs (script_calls 0 (words_of m) r.events.items r.script));
               };
-              chain = runs_chain m r.start r.events.items r.after 0 r.runs;
+              chain = runs_chain m r.boot.clock r.events.items r.after 0 r.runs;
             },
             tt,
           );
       stamps =
-          let own = rw (r.booted.offset_kept, r.booted.pair_raw, r.booted.pair_gtod) at (runs_name m r.start r.events.items r.after r.runs) in
-          let Names : StableStamp → Listed Event → Type 0 = λ s es. NamesLastStamps r.stamp.offset (record { raw = s.raw.ns; gtod = s.gtod }) es.items in
+          let own = rw (r.booted.opened.offset_kept, r.booted.opened.pair_raw, r.booted.opened.pair_gtod) at (runs_name m r.boot.clock r.events.items r.after r.runs) in
+          let Names : StableStamp → Listed Event → Type 0 = λ s es. NamesLastStamps r.boot.stamp.offset (record { raw = s.raw.ns; gtod = s.gtod }) es.items in
           let NamesAll : StableStamp → Type 0 = λ s. All (Names s) (r.events ∷ []) in
           rw (r.boots, r.threads, r.gtod_offset)
-          (All-cons NamesAll r.stamp [] (All-cons (Names r.stamp) r.events [] own (All-nil (Names r.stamp))) (All-nil NamesAll));
+          (All-cons NamesAll r.boot.stamp [] (All-cons (Names r.boot.stamp) r.events [] own (All-nil (Names r.boot.stamp))) (All-nil NamesAll));
     }
 
 pub lawful : (m : Plan) (t : Trace) → IsRunOf m t → IsLawful m t
@@ -102,15 +113,15 @@ lawful m t r =
       readings = readings m t r;
       histories = histories m t r;
       once = rw (r.threads, r.histories, append-nil, append-nil, r.steps) (same_list _);
-      seen = rw (r.cpu_of, r.threads, r.start_word) (runs_never_fall m r.start.word [] r.start r.events.items r.after r.runs (omega (arith, ints)), tt);
+      seen = rw (r.cpu_of, r.threads, r.start_word) (runs_never_fall m r.boot.clock.word [] r.boot.clock r.events.items r.after r.runs (omega (arith, ints)), tt);
       opening = record {
-        epoch_ticket = r.epoch_ticket;
-        epoch_cyc = rw r.epoch_ticket r.booted.epoch;
-        stamp = r.stamp;
+        epoch_ticket = r.epoch_ticket ∙ ap (λ (p : Published). p.ticket) r.booted.epoch;
+        epoch_cyc = rw (r.epoch_ticket, r.epoch_cyc, r.booted.epoch) refl;
+        stamp = r.boot.stamp;
         boots = r.boots;
         starts = r.starts;
         sched_offset = r.sched_offset;
-        gtod_offset = rw r.gtod_offset r.booted.offset;
-        start_word = rw (r.start_word, r.gtod_offset) r.booted.word;
+        gtod_offset = r.gtod_offset ∙ r.booted.opened.offset;
+        start_word = rw (r.start_word, r.gtod_offset) r.booted.opened.word;
       };
     }

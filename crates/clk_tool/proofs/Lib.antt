@@ -6,7 +6,7 @@ pub mod ReadingWhole
 pub mod RunHistory
 pub mod RunReadings
 pub mod RunSeen
-pub mod RunTickets
+pub mod RunBlocks
 pub mod OneThread
-pub mod RawReadings
 pub mod Accepting
+pub mod Seats

@@ -1,5 +1,5 @@
 -- The steps of a run are a chain, and they stand in the order of a history.
-use Rattle.std.proofs.Common.{◌≡◌, ℕ, zero, suc, ◌+◌, ◌<◌, ◌≤◌, ◌≤ℤ◌, false, List, [], ◌∷◌, ◌++◌, map, refl, sym, ◌∙◌, arith, inl, inr, ◌⊎◌}
+use Rattle.std.proofs.Common.{◌≡◌, ℕ, zero, suc, ◌+◌, ◌<◌, ◌≤◌, ◌≤ℤ◌, ℤ, ap, false, List, [], ◌∷◌, ◌++◌, map, refl, sym, ◌∙◌, arith, inl, inr, ◌⊎◌}
 use Rattle.std.proofs.lemmas.Int.{ints, clamps}
 use Rattle.std.proofs.lemmas.Bool.Decides.{nat_tests}
 use Rattle.std.proofs.lemmas.List.{map-append}
@@ -12,18 +12,30 @@ use Rattle.clk_trace.specs.WordHistory.{Step, steps_of_kind, steps_from, history
 use Rattle.clk_trace.specs.LegalHistory.{IsChain}
 use Rattle.clk_trace.specs.declared.event.Event.{Event}
 use Rattle.clk_trace.specs.declared.event.EventKind.{EventKind}
-use Rattle.clk_trace.specs.declared.event.EventKind.TheVariants.{Local, Stamp, Pause}
+use Rattle.clk_trace.specs.declared.event.EventKind.TheVariants.{Local, Stamp, Update, Pause}
 use Rattle.clk_trace.specs.declared.trace.HistoryStep.{HistoryStep}
 use Rattle.clk_tool.specs.Running.{Shows, Runs}
 use Rattle.clk_tool.specs.declared.clock.Clock.{Clock}
+
+-- the word that an event leaves
+abbrev pub left_by : ℤ → EventKind → ℤ
+left_by word (Local raw tick_raw tick_gtod offset old new) = new
+left_by word _ = word
+
+pub word_after : (m : Plan) (v : Clock) (k : EventKind) (w : Clock) → Shows m v k w → w.word ≡ left_by v.word k
+word_after m v (Local raw tick_raw tick_gtod offset old new) w h = ap (λ (c : Clock). c.word) h.after
+word_after m v (Stamp gtod_ticket gtod raw) w h = ap (λ (c : Clock). c.word) h.after
+word_after m v (Update p) w h = ap (λ (c : Clock). c.word) h.after
+word_after m v (Pause ticket count) w h = ap (λ (c : Clock). c.word) h.after
 
 -- a reading's step comes before a chain from the word that it leaves; other events leave the word
 pub shows_chain : (m : Plan) (v : Clock) (k : EventKind) (w : Clock) (call part : ℕ) (rest : List Step) → Shows m v k w
     → IsChain m.tick w.word rest → IsChain m.tick v.word (steps_of_kind 0 call part k ++ rest)
 shows_chain m v (Local raw tick_raw tick_gtod offset old new) w call part rest h later =
-    (h.old_is, rw (h.names_raw, h.names_gtod, h.names_offset) h.new_is, rw h.after at later)
-shows_chain m v (Stamp gtod_ticket gtod raw) w call part rest h later = rw h.after at later
-shows_chain m v (Pause ticket count) w call part rest h later = rw h.after at later
+    (h.old_is, rw (h.names_raw, h.names_gtod, h.names_offset) h.new_is, rw (word_after m v (Local raw tick_raw tick_gtod offset old new) w h) at later)
+shows_chain m v (Stamp gtod_ticket gtod raw) w call part rest h later = rw (word_after m v (Stamp gtod_ticket gtod raw) w h) at later
+shows_chain m v (Update p) w call part rest h later = rw (word_after m v (Update p) w h) at later
+shows_chain m v (Pause ticket count) w call part rest h later = rw (word_after m v (Pause ticket count) w h) at later
 
 pub runs_chain : (m : Plan) (v : Clock) (es : List Event) (w : Clock) (part : ℕ) → Runs m v es w → IsChain m.tick v.word (steps_from 0 part es)
 runs_chain m v [] w part r = tt
@@ -69,9 +81,14 @@ shows_lines : (m : Plan) (v : Clock) (k : EventKind) (w : Clock) (call part : �
     ⊎ ((y : HistoryStep) × (map (λ s. s.line) (steps_of_kind 0 call part k) ≡ y ∷ []) × LineOf v w call part y)
 shows_lines m v (Local raw tick_raw tick_gtod offset old new) w call part h =
     let up : old ≤ℤ new = rw (h.new_is, h.old_is) (omega (arith, ints, clamps)) in
-    inr (record { thread = 0; call = call; part = part; old = old; new = new }, refl, (h.old_is, up, rw h.after refl, refl, refl, refl))
-shows_lines m v (Stamp gtod_ticket gtod raw) w call part h = inl (refl, rw h.after refl)
-shows_lines m v (Pause ticket count) w call part h = inl (refl, rw h.after refl)
+    inr (
+      record { thread = 0; call = call; part = part; old = old; new = new },
+      refl,
+      (h.old_is, up, sym (word_after m v (Local raw tick_raw tick_gtod offset old new) w h), refl, refl, refl),
+    )
+shows_lines m v (Stamp gtod_ticket gtod raw) w call part h = inl (refl, word_after m v (Stamp gtod_ticket gtod raw) w h)
+shows_lines m v (Update p) w call part h = inl (refl, word_after m v (Update p) w h)
+shows_lines m v (Pause ticket count) w call part h = inl (refl, word_after m v (Pause ticket count) w h)
 
 -- the lines of a run after a line that left the word where the run begins
 sorted_after : (m : Plan) (x : HistoryStep) (v : Clock) (es : List Event) (w : Clock) (call part : ℕ) → Runs m v es w → CallsRise call es

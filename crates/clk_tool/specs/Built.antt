@@ -4,7 +4,7 @@ use Rattle.std.specs.List.{list_all}
 use Rattle.std.specs.Option.{is_none}
 use Rattle.clk_machine.specs.Plan.{Plan, cpu_count, thread_at}
 use Rattle.clk_machine.specs.declared.script.Word.{Word}
-use Rattle.clk_machine.specs.declared.script.Word.TheVariants.{Idle, Update}
+use Rattle.clk_machine.specs.declared.script.Word.TheVariants.{Idle}
 
 -- the words of the one CPU, after repeats
 abbrev pub words_of : Plan → List Word
@@ -12,10 +12,9 @@ words_of m = (thread_at m 0).1
 
 abbrev pub is_built_word : Word → Bool
 is_built_word Idle = false
-is_built_word Update = false
 is_built_word _ = true
 
--- one CPU and no reader, none of whose words ends an idle time or updates the latch; it starts per CPU, brings no other
+-- one CPU and no reader, none of whose words ends an idle time; it starts per CPU, brings no other
 -- CPU up, and watches no source
 abbrev pub is_built : Plan → Bool
 is_built m =

@@ -36,5 +36,5 @@ fn are_built(machine: &Machine) -> bool
 fn is_built_word(word: Word) -> bool
     ensures { result ≡ is_built_word word }
 {
-    !matches!(word, Word::Idle | Word::Update)
+    !matches!(word, Word::Idle)
 }

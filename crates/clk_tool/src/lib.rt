@@ -26,6 +26,7 @@ mod path;
 #[cfg(test)]
 mod row_tests;
 mod run;
+mod shared;
 mod source;
 mod standard;
 mod status;

@@ -55,6 +55,14 @@ fn traces_are_those_of_the_worked_runs(rt: HostRuntime) -> Result<(), Fail> {
             "\"local\", \"tick\", \"pause 200000\", \"local\"",
             "0 local 3 30 0 30 20 10 10 20 30\n1 stamp 4 40 5 50 0 50\n1 local 6 60 0 60 50 40 10 30 60\n2 pause 7 200000\n3 local 200007 2000070 0 2000070 50 40 10 60 1000050\nhistory 0 3\n0 0 20 30\n0 1 30 60\n0 3 60 1000050\nend 200008\n",
         ),
+        (
+            "\"update\", \"local\"",
+            "0 update 1 3 30 30\n1 local 4 40 1 40 20 10 10 20 40\nhistory 0 1\n0 1 20 40\nend 5\n",
+        ),
+        (
+            "\"update\", \"update\", \"local\"",
+            "0 update 1 3 30 30\n1 update 2 4 40 40\n2 local 5 50 2 50 20 10 10 20 50\nhistory 0 1\n0 2 20 50\nend 6\n",
+        ),
         ("", "history 0 0\nend 3\n"),
     ] {
         let text = file(rt.alloc(), "10", "1000000", script)?;
@@ -122,7 +130,6 @@ fn counters_are_those_of_the_file(rt: HostRuntime) -> Result<(), Fail> {
 fn forms_that_are_not_built_are_refused_last(rt: HostRuntime) -> Result<(), Fail> {
     let head = "version = 1\nstep = 10\nnominal_khz = 1000000\nreference.khz = 1000000\n";
     for form in [
-        "cpus = 1\nstable = false\ncpu = [{ script = [\"update\"] }]",
         "cpus = 1\nstable = false\ncpu = [{ script = [\"local\", \"idle\"] }]",
         "cpus = 2\nstable = false\ncpu = [{}, {}]",
         "cpus = 1\nstable = false\ncpu = [{}]\nreader = [{ cpu = 0 }]",

@@ -1,6 +1,6 @@
 ghost use Rattle.std.specs.Prelude.{◌≡◌, ◌≤◌, true, length, IfOk};
-ghost use Rattle.clk_machine.specs.Limits.{IsWithinLimits};
 ghost use Rattle.clk_trace.specs.LawfulTrace.{IsLawful};
+ghost use Rattle.clk_tool.specs.Booting.{IsBooted, IsRunOf};
 ghost use Rattle.clk_tool.specs.Built.{is_built, words_of};
 ghost use Rattle.clk_tool.specs.Room.{HasRoom};
 
@@ -42,21 +42,29 @@ impl Lists {
 
 /// Runs the script of a machine on this thread, from the boot on, and answers the trace, which is lawful. The error is
 /// want of memory, and comes before the first word passes the gate.
-pub fn run_machine<G: Gate>(alloc: Global, machine: &Machine, gate: &G) -> Result<Trace, AllocError>
-    requires { is_built machine.now ≡ true }
-    ensures { IfOk result (IsLawful machine.now) }
+pub fn run_machine<G: Gate>(alloc: Global, machine: Machine, gate: &G) -> Result<Trace, AllocError>
+    requires { is_built machine ≡ true }
+    ensures { IfOk result (IsLawful machine) }
 {
     let lists = Lists::with_room(alloc, machine.words(0) as usize)?;
-    Ok(run_in(machine, lists, gate))
+    let boot = boot_machine(alloc, machine)?;
+    Ok(run_in(boot, lists, gate))
 }
 
-/// The same within lists that have the room.
-fn run_in<G: Gate>(machine: &Machine, lists: Lists, gate: &G) -> Trace
-    requires built { is_built machine.now ≡ true }
-    requires limits { IsWithinLimits machine.now }
-    requires room { HasRoom (length (words_of machine.now)) lists }
-    ensures { IsLawful machine.now result }
+/// The run from the boot on, within lists that have the room. What the trace shows comes from the tables: each reading
+/// is what the latch answered at the ticket drawn for it, and the last number is what the ticket table answered.
+fn run_in<G: Gate>(boot: Boot, lists: Lists, gate: &G) -> Trace
+    requires built { is_built boot.shared.machine ≡ true }
+    requires booted { IsBooted boot.shared.machine boot }
+    requires room { HasRoom (length (words_of boot.shared.machine)) lists }
+    ensures { IsRunOf boot.shared.machine result }
 {
+    let Boot {
+        shared,
+        epoch,
+        stamp,
+        clock,
+    } = boot;
     let Lists {
         mut boots,
         mut cpu_of,
@@ -65,11 +73,6 @@ fn run_in<G: Gate>(machine: &Machine, lists: Lists, gate: &G) -> Trace
         events,
         history,
     } = lists;
-    let Boot {
-        epoch_cyc,
-        stamp,
-        clock,
-    } = boot_machine(machine);
     let start_word = clock.word;
     let mut thread = Thread {
         clock,
@@ -77,20 +80,14 @@ fn run_in<G: Gate>(machine: &Machine, lists: Lists, gate: &G) -> Trace
         history,
         last: 0,
     };
-    thread.run(machine, gate);
-    let Thread {
-        clock: after,
-        events,
-        history,
-        last: _,
-    } = thread;
+    thread.run(&shared, gate);
     boots.push(stamp);
     cpu_of.push(0);
-    threads.push(events);
-    histories.push(history);
+    threads.push(thread.events);
+    histories.push(thread.history);
     Trace {
-        epoch_ticket: 0,
-        epoch_cyc,
+        epoch_ticket: epoch.ticket,
+        epoch_cyc: epoch.cyc,
         boots,
         starts: Mode::PerCpu,
         sched_offset: 0,
@@ -99,6 +96,6 @@ fn run_in<G: Gate>(machine: &Machine, lists: Lists, gate: &G) -> Trace
         cpu_of,
         threads,
         histories,
-        tickets: after.next,
+        tickets: shared.tickets.finish(thread.clock.time),
     }
 }

@@ -54,7 +54,7 @@ pub fn clock_tool<R, S: Source, K: Sink, G: Gate>(
     match command_in(words) {
         None => Status::Usage,
         Some(Command::Run) => match machine_of(alloc, source) {
-            Ok(machine) => trace_into(alloc, &machine, sink, gate),
+            Ok(machine) => trace_into(alloc, machine, sink, gate),
             Err(status) => status,
         },
     }
@@ -98,13 +98,13 @@ fn status_of(error: FileError) -> Status
 }
 
 /// Runs a machine and writes its trace.
-fn trace_into<K: Sink, G: Gate>(alloc: Global, machine: &Machine, sink: &mut K, gate: &G) -> Status
-    requires { is_built machine.now ≡ true }
+fn trace_into<K: Sink, G: Gate>(alloc: Global, machine: Machine, sink: &mut K, gate: &G) -> Status
+    requires { is_built machine ≡ true }
     ensures done { result ≡ Status.Done →
-        Traced machine.now (Grew (K.written sink.old) (K.written sink.new)) }
+        Traced machine (Grew (K.written sink.old) (K.written sink.new)) }
     ensures write_fault { result ≡ Status.WriteFault → Rose (K.faults sink.old) (K.faults sink.new) }
     ensures cut { result ≡ Status.WriteFault →
-        Traced machine.now (GrewByPrefix (K.written sink.old) (K.written sink.new)) }
+        Traced machine (GrewByPrefix (K.written sink.old) (K.written sink.new)) }
     ensures silent { result ≡ Status.Memory → sink.new ≡ sink.old }
     ensures answers { IsOfRun result }
     ensures later { K.faults sink.old ≤ K.faults sink.new }

@@ -1,4 +1,5 @@
 pub mod TraceText
+pub mod Updates
 pub mod Taking
 pub mod Parts
 pub mod ScriptEvents

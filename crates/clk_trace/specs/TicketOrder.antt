@@ -6,7 +6,7 @@ use Rattle.clk_base.specs.Blocks.{AllEndBy, Covers, Rises}
 use Rattle.clk_num.specs.Listed.{Listed}
 use Rattle.clk_trace.specs.declared.event.Event.{Event}
 use Rattle.clk_trace.specs.declared.event.EventKind.{EventKind}
-use Rattle.clk_trace.specs.declared.event.EventKind.TheVariants.{Local, Stamp, Pause}
+use Rattle.clk_trace.specs.declared.event.EventKind.TheVariants.{Local, Stamp, Update, Pause}
 use Rattle.clk_trace.specs.declared.trace.StableStamp.{StableStamp}
 
 -- the block of one reading
@@ -17,6 +17,7 @@ one k = record { first = k; count = 1 }
 abbrev pub blocks_of_kind : EventKind → List Block
 blocks_of_kind (Local raw tick_raw tick_gtod offset old new) = one raw.ticket ∷ []
 blocks_of_kind (Stamp gtod_ticket gtod raw) = one gtod_ticket ∷ one raw.ticket ∷ []
+blocks_of_kind (Update p) = one p.ticket ∷ []
 blocks_of_kind (Pause ticket count) = record { first = ticket; count = count } ∷ []
 
 abbrev pub blocks_of : Event → List Block

@@ -6,7 +6,7 @@ use Rattle.clk_num.specs.Listed.{Listed}
 use Rattle.clk_machine.specs.declared.reading.RawReading.{RawReading}
 use Rattle.clk_trace.specs.declared.event.Event.{Event}
 use Rattle.clk_trace.specs.declared.event.EventKind.{EventKind}
-use Rattle.clk_trace.specs.declared.event.EventKind.TheVariants.{Local, Stamp, Pause}
+use Rattle.clk_trace.specs.declared.event.EventKind.TheVariants.{Local, Stamp, Update, Pause}
 use Rattle.clk_words.specs.declared.opening.Mode.{Mode}
 use Rattle.clk_words.specs.declared.opening.Mode.TheVariants.{Stable, PerCpu}
 use Rattle.clk_trace.specs.declared.trace.StableStamp.{StableStamp}
@@ -22,6 +22,7 @@ kind_words (Local raw tick_raw tick_gtod offset old new) =
     (codes "local" ∷ raw_words raw)
     ++ (signed_decimal tick_raw ∷ signed_decimal tick_gtod ∷ signed_decimal offset ∷ signed_decimal old ∷ signed_decimal new ∷ [])
 kind_words (Stamp gtod_ticket gtod raw) = codes "stamp" ∷ decimal gtod_ticket ∷ signed_decimal gtod ∷ raw_words raw
+kind_words (Update p) = codes "update" ∷ decimal p.rec ∷ decimal p.ticket ∷ decimal p.cyc ∷ signed_decimal p.ns ∷ []
 kind_words (Pause ticket count) = codes "pause" ∷ decimal ticket ∷ decimal count ∷ []
 
 abbrev pub event_line : ℕ → Event → List ℕ

@@ -1,4 +1,4 @@
-use clk_machine::RawReading;
+use clk_machine::{Published, RawReading};
 
 /// What a thread did at one place of its script. Times are in ns.
 #[derive(Clone, Copy, PartialEq, Eq, Debug)]
@@ -27,6 +27,8 @@ pub enum EventKind {
         gtod: i64,
         raw: RawReading,
     },
+    /// The record that an update of the CPU's latch published.
+    Update(Published),
     /// The tickets of a pause: the first, and how many.
     Pause {
         ticket: u64,

@@ -6,14 +6,14 @@ use crate::sink::{Failed, Sink};
 use crate::trace::{HistoryStep, StableStamp, Trace};
 use crate::write::write_trace;
 use clk_base::raised;
-use clk_machine::RawReading;
+use clk_machine::{Published, RawReading};
 use clk_num::List;
 use clk_words::Mode;
 use std::alloc::{AllocError, Global};
 use std::test::Fail;
 
 const TEXT: &str =
-    "trace 1\nepoch 0 0\nboot 1 10 2 20 0 20\nstart percpu 0 10\nword 0 20\nthread 0 0\n0 local 3 30 0 30 20 10 10 20 30\n1 stamp 4 40 5 50 0 50\n1 local 6 60 0 60 50 40 10 30 60\n2 pause 7 200000\nhistory 0 2\n0 0 20 30\n0 1 30 60\nend 200007\n";
+    "trace 1\nepoch 0 0\nboot 1 10 2 20 0 20\nstart percpu 0 10\nword 0 20\nthread 0 0\n0 local 3 30 0 30 20 10 10 20 30\n1 stamp 4 40 5 50 0 50\n1 local 6 60 0 60 50 40 10 30 60\n2 pause 7 200000\n3 update 1 200007 2000070 2000070\nhistory 0 2\n0 0 20 30\n0 1 30 60\nend 200008\n";
 
 /// A sink that takes at most 16 bytes at a time and fails at one of its writes, counted from 1.
 #[derive(Drop)]
@@ -86,7 +86,7 @@ fn local(ticket: u64, ns: u32, tick_raw: i64, tick_gtod: i64, old: i64) -> Event
 }
 
 fn events(alloc: Global) -> Result<List<Event>, AllocError> {
-    let mut events = List::with_room(alloc, 4)?;
+    let mut events = List::with_room(alloc, 5)?;
     events.push(Event {
         call: 0,
         kind: local(3, 30, 20, 10, 20),
@@ -109,6 +109,15 @@ fn events(alloc: Global) -> Result<List<Event>, AllocError> {
             ticket: 7,
             count: 200_000,
         },
+    });
+    events.push(Event {
+        call: 3,
+        kind: EventKind::Update(Published {
+            rec: 1,
+            ticket: 200_007,
+            cyc: 2_000_070,
+            ns: 2_000_070,
+        }),
     });
     Ok(events)
 }
@@ -152,7 +161,7 @@ fn run(alloc: Global) -> Result<Trace, AllocError>
         cpu_of: single(alloc, 0)?,
         threads: single(alloc, events(alloc)?)?,
         histories: single(alloc, history(alloc)?)?,
-        tickets: 200_007,
+        tickets: 200_008,
     })
 }
 

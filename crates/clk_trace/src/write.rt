@@ -3,13 +3,15 @@ ghost use Rattle.std.specs.Fmt.{signed_decimal};
 ghost use Rattle.clk_base.specs.Causes.{Grew, GrewByPrefix, HasCause};
 ghost use Rattle.clk_base.specs.Text.{line, lines_from};
 ghost use Rattle.clk_trace.specs.Taking.{Takes, progress_of};
-ghost use Rattle.clk_trace.specs.TraceText.{text, event_line, boot_line, word_line, thread_lines, step_line, history_lines, mode_name};
+ghost use Rattle.clk_trace.specs.Parts.{part_text};
+ghost use Rattle.clk_trace.specs.TraceText.{text, kind_words, event_line, boot_line, word_line, thread_lines, step_line, history_lines, mode_name};
 
 use crate::event::{Event, EventKind};
 use crate::out::Part::{Name, Signed, Unsigned};
-use crate::out::{Out, WriteFault};
+use crate::out::{Out, Part, WriteFault};
 use crate::sink::Sink;
 use crate::trace::{HistoryStep, StableStamp, Trace};
+use clk_machine::{Published, RawReading};
 use clk_num::List;
 use clk_words::Mode;
 
@@ -173,25 +175,59 @@ fn write_event<K: Sink>(out: &mut Out, sink: &mut K, event: &Event)
             gtod_ticket,
             gtod,
             raw,
-        } => out.line(
-            sink,
-            &call,
-            &[
-                Name("stamp"),
-                Unsigned(*gtod_ticket),
-                Signed(*gtod),
-                Unsigned(raw.ticket),
-                Unsigned(raw.cyc),
-                Unsigned(u64::from(raw.rec)),
-                Signed(raw.ns),
-            ],
-        ),
+        } => write_stamp(out, sink, &call, *gtod_ticket, gtod, raw),
+        EventKind::Update(published) => write_update(out, sink, &call, published),
         EventKind::Pause { ticket, count } => out.line(
             sink,
             &call,
             &[Name("pause"), Unsigned(*ticket), Unsigned(*count)],
         ),
     }
+}
+
+fn write_stamp<K: Sink>(
+    out: &mut Out,
+    sink: &mut K,
+    call: &Part,
+    gtod_ticket: u64,
+    gtod: &i64,
+    raw: &RawReading,
+)
+    ensures { Takes (progress_of K.written K.faults sink.old out.old)
+        (progress_of K.written K.faults sink.new out.new)
+        (line (part_text call.now ∷ kind_words (EventKind.Stamp gtod_ticket gtod.now raw.now))) }
+{
+    out.line(
+        sink,
+        call,
+        &[
+            Name("stamp"),
+            Unsigned(gtod_ticket),
+            Signed(*gtod),
+            Unsigned(raw.ticket),
+            Unsigned(raw.cyc),
+            Unsigned(u64::from(raw.rec)),
+            Signed(raw.ns),
+        ],
+    );
+}
+
+fn write_update<K: Sink>(out: &mut Out, sink: &mut K, call: &Part, published: &Published)
+    ensures { Takes (progress_of K.written K.faults sink.old out.old)
+        (progress_of K.written K.faults sink.new out.new)
+        (line (part_text call.now ∷ kind_words (EventKind.Update published.now))) }
+{
+    out.line(
+        sink,
+        call,
+        &[
+            Name("update"),
+            Unsigned(u64::from(published.rec)),
+            Unsigned(published.ticket),
+            Unsigned(published.cyc),
+            Signed(published.ns),
+        ],
+    );
 }
 
 fn write_histories<K: Sink>(out: &mut Out, sink: &mut K, histories: &[List<HistoryStep>])

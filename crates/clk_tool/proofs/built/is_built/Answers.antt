@@ -1,4 +1,4 @@
-use Rattle.clk_tool.proofs.RawReadings.{some_thread}
+use Rattle.clk_tool.proofs.OneThread.{some_thread}
 use Rattle.clk_tool.proofs.built.is_built.Goals as goal
 
 pub are_built-requires : goal.are_built-requires

@@ -1,9 +1,17 @@
-use Rattle.std.proofs.Common.{arith}
+use Rattle.std.proofs.Common.{arith, subst}
+use Rattle.clk_machine.specs.Plan.{Plan}
+use Rattle.clk_tool.specs.Booting.{IsRunOf}
+use Rattle.clk_tool.proofs.LawfulRun.{lawful}
 use Rattle.clk_tool.proofs.OneThread.{one_thread, threads_one, words_few}
 use Rattle.clk_tool.proofs.run.run_machine.Goals as goal
 
 pub words-requires : goal.words-requires
-words-requires g c = rw (threads_one c.args.machine.now (one_thread c.args.machine.now c.requires)) (omega arith)
+words-requires g c = rw (threads_one c.args.machine (one_thread c.args.machine c.requires)) (omega arith)
 
 pub with_room-requires : goal.with_room-requires
-with_room-requires g c = rw c.words.ensures.count (words_few c.args.machine.now (one_thread c.args.machine.now c.requires) c.words.ensures.limits)
+with_room-requires g c = rw c.words.ensures.count (words_few c.args.machine (one_thread c.args.machine c.requires) c.words.ensures.limits)
+
+pub returns : goal.returns
+returns g c =
+    let booted = c.in_ok-boot.ensures in
+    lawful c.args.machine c.run_in.result (subst (λ (m : Plan). IsRunOf m c.run_in.result) booted.machine c.run_in.ensures)

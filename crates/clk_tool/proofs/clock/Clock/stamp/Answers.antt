@@ -6,16 +6,20 @@ pub returns-clause-ready : goal.returns-clause-ready
 returns-clause-ready c =
     let (low, high) = c.raw-raw.ensures.small in
     let (from, upto) = c.gtod-gtod.ensures.small in
-    let ready = c.requires.ready in
-    let left = c.requires.left in
+    let ready = c.raw-raw.ensures.ready in
     let raw : FitsSigned w64 c.raw-raw.result.ns = omega (arith, ints, low, high) in
     let gtod : FitsSigned w64 c.gtod-gtod.result = omega (arith, ints, from, upto) in
-    rw c.raw-raw.ensures.after (simp to_z-of_z (record {
+    simp to_z-of_z (record {
       limits = ready.limits;
-      zero = ready.zero;
-      next = omega (arith, left);
+      latch = ready.latch;
+      owner = ready.owner;
+      records = ready.records;
+      drawn = ready.drawn;
+      table = ready.table;
+      share = ready.share;
+      rises = ready.rises;
       tick_raw = (omega (arith, ints, low), omega (arith, ints, high));
       tick_gtod = (omega (arith, ints, from), omega (arith, ints, upto));
       offset = ready.offset;
       word = ready.word;
-    }))
+    })

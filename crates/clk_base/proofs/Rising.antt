@@ -1,0 +1,41 @@
+-- Parts of blocks that rise.
+use Rattle.std.proofs.Common.{◌≡◌, ℕ, ◌+◌, ◌≤◌, List, [], ◌∷◌, ◌++◌}
+use Rattle.std.specs.List.{All}
+use Rattle.std.proofs.lemmas.List.Elements.{All-nil, All-cons, All-head, All-tail}
+use Rattle.clk_base.specs.declared.block.Block.{Block}
+use Rattle.clk_base.specs.Blocks.{end_of, AllEndBy, Rises}
+
+-- what holds of two lists in a row holds of each
+all_front : {A : Type 0} (P : A → Type 0) (xs ys : List A) → All P (xs ++ ys) → All P xs
+all_front P [] ys h = All-nil P
+all_front P (x ∷ xs) ys h = All-cons P x xs (All-head P x (xs ++ ys) h) (all_front P xs ys (All-tail P x (xs ++ ys) h))
+
+all_back : {A : Type 0} (P : A → Type 0) (xs ys : List A) → All P (xs ++ ys) → All P ys
+all_back P [] ys h = h
+all_back P (x ∷ xs) ys h = all_back P xs ys (All-tail P x (xs ++ ys) h)
+
+pub rises_front : (bs cs : List Block) → Rises (bs ++ cs) → Rises bs
+rises_front [] cs h = tt
+rises_front (b ∷ bs) cs h = (all_front (λ (c : Block). end_of b ≤ c.first) bs cs h.0, rises_front bs cs h.1)
+
+pub rises_back : (bs cs : List Block) → Rises (bs ++ cs) → Rises cs
+rises_back [] cs h = h
+rises_back (b ∷ bs) cs h = rises_back bs cs h.1
+
+-- one block more that ends before each of these begins
+ends_more : (b : Block) (bs cs : List Block) → All (λ (c : Block). end_of b ≤ c.first) cs → All (λ (c : Block). AllEndBy c.first bs) cs
+    → All (λ (c : Block). AllEndBy c.first (b ∷ bs)) cs
+ends_more b bs [] here later = All-nil (λ (c : Block). AllEndBy c.first (b ∷ bs))
+ends_more b bs (c ∷ cs) here later =
+    All-cons (λ (c : Block). AllEndBy c.first (b ∷ bs)) c cs
+    (All-cons (λ (a : Block). end_of a ≤ c.first) b bs (All-head (λ (c : Block). end_of b ≤ c.first) c cs here) (All-head (λ (c : Block). AllEndBy c.first bs) c cs later))
+    (ends_more b bs cs (All-tail (λ (c : Block). end_of b ≤ c.first) c cs here) (All-tail (λ (c : Block). AllEndBy c.first bs) c cs later))
+
+ends_none : (cs : List Block) → All (λ (c : Block). AllEndBy c.first []) cs
+ends_none [] = All-nil (λ (c : Block). AllEndBy c.first [])
+ends_none (c ∷ cs) = All-cons (λ (c : Block). AllEndBy c.first []) c cs (All-nil (λ (a : Block). end_of a ≤ c.first)) (ends_none cs)
+
+-- each block of the second list begins when those of the first have ended
+pub rises_apart : (bs cs : List Block) → Rises (bs ++ cs) → All (λ (c : Block). AllEndBy c.first bs) cs
+rises_apart [] cs h = ends_none cs
+rises_apart (b ∷ bs) cs h = ends_more b bs cs (all_back (λ (c : Block). end_of b ≤ c.first) bs cs h.0) (rises_apart bs cs h.1)
