@@ -98,21 +98,34 @@ count_at_most (negsuc z) n h = omega (arith, ints)
 abbrev pub count_of_cpu : Plan → ℕ → ℤ → ℕ → ℤ
 count_of_cpu m cpu adjust k = let c = cpu_at m cpu in count_at (c.offset +ℤ adjust) c.khz c.jumps (time_at m k)
 
-pub count_small : (m : Plan) (cpu : ℕ) (adjust : ℤ) (k : ℕ) → IsWithinLimits m → cpu < cpu_count m → IsNear 47 adjust → k < 2 ^ 24
-    → count_of (count_of_cpu m cpu adjust k) ≤ 41 * 2 ^ 42
-count_small m cpu adjust k l h near small =
+-- by an adjustment of at most n cycles, how far the count of a CPU is
+count_adjusted : (m : Plan) (cpu : ℕ) (adjust : ℤ) (n k : ℕ) → IsWithinLimits m → cpu < cpu_count m → adjust ≤ℤ pos n → k < 2 ^ 24
+    → count_of (count_of_cpu m cpu adjust k) ≤ n + 9 * 2 ^ 42
+count_adjusted m cpu adjust n k l h upper small =
     let c = cpu_in_range m cpu l.ranges h in
-    let (lower, upper) = near in
     let (low, high) = c.offset in
     let far = count_high ((cpu_at m cpu).offset +ℤ adjust) (cpu_at m cpu) (time_at m k) c.khz c.jumps (time_below m k l.ranges small) in
-    count_at_most (count_of_cpu m cpu adjust k) (41 * 2 ^ 42) (omega (arith, ints, far, upper, high))
+    count_at_most (count_of_cpu m cpu adjust k) (n + 9 * 2 ^ 42) (omega (arith, ints, far, upper, high))
+
+pub count_small : (m : Plan) (cpu : ℕ) (adjust : ℤ) (k : ℕ) → IsWithinLimits m → cpu < cpu_count m → IsNear 47 adjust → k < 2 ^ 24
+    → count_of (count_of_cpu m cpu adjust k) ≤ 41 * 2 ^ 42
+count_small m cpu adjust k l h near small = let most = count_adjusted m cpu adjust (2 ^ 47) k l h near.1 small in omega (arith, most)
+
+-- no counter shows more than was counted
+counter_adjusted : (m : Plan) (cpu : ℕ) (adjust : ℤ) (n k : ℕ) → IsWithinLimits m → cpu < cpu_count m → adjust ≤ℤ pos n → k < 2 ^ 24
+    → counter_at m cpu adjust k ≤ n + 9 * 2 ^ 42
+counter_adjusted m cpu adjust n k l h upper small =
+    let most = count_adjusted m cpu adjust n k l h upper small in
+    let shows = mod-le (count_of (count_of_cpu m cpu adjust k)) (2 ^ count_of m.bits) in
+    omega (arith, most, shows)
 
 pub counter_small : (m : Plan) (cpu : ℕ) (adjust : ℤ) (k : ℕ) → IsWithinLimits m → cpu < cpu_count m → IsNear 47 adjust → k < 2 ^ 24
     → counter_at m cpu adjust k ≤ 41 * 2 ^ 42
-counter_small m cpu adjust k l h near small =
-    let most = count_small m cpu adjust k l h near small in
-    let shows = mod-le (count_of (count_of_cpu m cpu adjust k)) (2 ^ count_of m.bits) in
-    omega (arith, most, shows)
+counter_small m cpu adjust k l h near small = let most = counter_adjusted m cpu adjust (2 ^ 47) k l h near.1 small in omega (arith, most)
+
+pub counter_small_twice : (m : Plan) (cpu : ℕ) (adjust : ℤ) (k : ℕ) → IsWithinLimits m → cpu < cpu_count m → IsNear 48 adjust → k < 2 ^ 24
+    → counter_at m cpu adjust k ≤ 73 * 2 ^ 42
+counter_small_twice m cpu adjust k l h near small = let most = counter_adjusted m cpu adjust (2 ^ 48) k l h near.1 small in omega (arith, most)
 
 -- what the width leaves of the difference of two small counts
 pub masked_small : (m : Plan) (a b : ℤ) (n : ℕ) → AreInRange m → count_of a ≤ n → count_of b ≤ n

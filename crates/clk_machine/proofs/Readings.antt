@@ -9,13 +9,16 @@ use Rattle.clk_machine.specs.Plan.{Plan, count_of}
 use Rattle.clk_machine.specs.Limits.{AreInRange}
 use Rattle.clk_machine.specs.Time.{counter_at, shown}
 use Rattle.clk_machine.specs.Records.{record_zero, raw_by, IsNextRecord, AreNextRecords, AreRecords}
-use Rattle.clk_machine.specs.Laws.{IsAdjusted, AreInOrder, IsFrom0To, CountersAreSmall, RecordsAreSmall, ReadingsAreSmall}
+use Rattle.clk_machine.specs.Laws.{IsAdjusted, AreInOrder, IsFrom0To, CountersAreSmall, CountersAdjustedTwiceAreSmall, RecordsAreSmall, ReadingsAreSmall}
 use Rattle.clk_machine.specs.declared.reading.Published.{Published}
-use Rattle.clk_machine.proofs.Bounds.{convert_small, count_of_cpu, count_small, counter_small, masked_small}
+use Rattle.clk_machine.proofs.Bounds.{convert_small, count_of_cpu, count_small, counter_small, counter_small_twice, masked_small}
 use Rattle.clk_machine.proofs.Travel.{travel, travel_few, differ_by_travel}
 
 pub counters_are_small : CountersAreSmall
 counters_are_small m cpu adjust k a h = counter_small m cpu adjust k a.limits a.there a.near h
+
+pub counters_adjusted_twice_are_small : CountersAdjustedTwiceAreSmall
+counters_adjusted_twice_are_small m cpu adjust k l there near h = counter_small_twice m cpu adjust k l there near h
 
 -- what a record adds at most for a counter value that is not far
 added : (m : Plan) (p : Published) (cyc most far : ℕ) → AreInRange m → IsFrom0To most p.ns

@@ -23,6 +23,12 @@ AreInOrder last (p ∷ records) = (last ≤ p.ticket) × (p.ticket < 2 ^ 24) × 
 abbrev pub CountersAreSmall : Type 0
 CountersAreSmall = (m : Plan) (cpu : ℕ) (adjust : ℤ) (k : ℕ) → IsAdjusted m cpu adjust → k < 2 ^ 24 → counter_at m cpu adjust k ≤ 41 * 2 ^ 42
 
+-- a run of a bring-up adds its adjustment to those of the runs before it: a counter with the sum of two
+abbrev pub CountersAdjustedTwiceAreSmall : Type 0
+CountersAdjustedTwiceAreSmall =
+    (m : Plan) (cpu : ℕ) (adjust : ℤ) (k : ℕ) → IsWithinLimits m → cpu < cpu_count m → IsNear 48 adjust → k < 2 ^ 24
+    → counter_at m cpu adjust k ≤ 73 * 2 ^ 42
+
 -- a count of ns from 0 to this many
 abbrev pub IsFrom0To : ℕ → ℤ → Type 0
 IsFrom0To most ns = (pos 0 ≤ℤ ns) × (ns ≤ℤ pos most)
