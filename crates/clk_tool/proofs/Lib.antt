@@ -10,3 +10,4 @@ pub mod RunBlocks
 pub mod OneThread
 pub mod Accepting
 pub mod Seats
+pub mod Numbers

@@ -8,7 +8,10 @@ use Rattle.clk_trace.specs.TraceText.{text}
 use Rattle.clk_trace.specs.LawfulTrace.{IsLawful}
 use Rattle.clk_trace.specs.declared.trace.Trace.{Trace}
 use Rattle.clk_tool.specs.Built.{is_built}
+use Rattle.clk_tool.specs.Rate.{rate_text}
 use Rattle.clk_tool.specs.Whole.{Came, CameMore}
+use Rattle.clk_tool.specs.declared.command.Command.{Command}
+use Rattle.clk_tool.specs.declared.command.Command.TheVariants as command
 use Rattle.clk_tool.specs.declared.status.Status.{Status}
 use Rattle.clk_tool.specs.declared.status.Status.TheVariants.{Done, Usage, ReadFault, Refused, WriteFault, Memory}
 use Rattle.clk_tool.specs.declared.status.Refusal.{Refusal}
@@ -41,6 +44,18 @@ pub record Ran (limit : ℕ) (before after : Option (List ℕ)) (Written : List 
   pub machine : Plan
   pub came : CameMachine limit before after machine
   pub traced : Traced machine Written
+
+-- what a command makes of its source was written so: of `run` the trace of the machine that came, and of `rate` the
+-- lines of the rate
+abbrev pub Answered : Option Command → ℕ → Option (List ℕ) → Option (List ℕ) → (List ℕ → Type 0) → Type 0
+Answered (Some command.Run) limit before after Written = Ran limit before after Written
+Answered (Some (command.Rate hz bits)) limit before after Written = Written (rate_text hz bits)
+Answered None limit before after Written = ⊥
+
+-- the command is `rate`
+abbrev pub IsRate : Option Command → Type 0
+IsRate (Some (command.Rate hz bits)) = Unit {0}
+IsRate _ = ⊥
 
 -- the refusal of a file that came whole, by what its bytes are: the first failing test, and last of all a form that is
 -- not built

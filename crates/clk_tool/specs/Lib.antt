@@ -4,6 +4,7 @@ pub mod Booting
 pub mod Commands
 pub mod Ends
 pub mod Making
+pub mod Rate
 pub mod Failures
 pub mod Room
 pub mod Running

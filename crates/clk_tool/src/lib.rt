@@ -2,7 +2,8 @@
 //!
 //! [`clock_tool`] is the top call. With the word `run` it reads a source to its end, runs the machine that the bytes
 //! describe, and writes the trace into a sink. On `Done` what was written is the text of a lawful trace of that machine;
-//! every other answer but want of memory has its cause as a clause of the call.
+//! every other answer but want of memory has its cause as a clause of the call. With `rate HZ BITS` it writes the rate of
+//! the scheduler clock for such a counter ([`rate_command`]).
 //!
 //! - [`Source`] and `Sink` count their faults, and a call of theirs fails only where the count rose. In memory
 //!   ([`MemSource`], [`MemSink`], [`SureSource`], [`SureSink`]) they tell their bytes; over std ([`StdSource`],
@@ -23,6 +24,9 @@ mod end_tests;
 mod failures;
 mod memory;
 mod path;
+mod rate;
+#[cfg(test)]
+mod rate_tests;
 #[cfg(test)]
 mod row_tests;
 mod run;
@@ -36,6 +40,7 @@ mod tool;
 mod whole;
 
 pub use memory::{MemSink, MemSource};
+pub use rate::rate_command;
 pub use source::Source;
 pub use standard::{StdSink, StdSource};
 pub use status::{Refusal, Status};

@@ -292,7 +292,7 @@ fn refusals_name_their_place(rt: HostRuntime) -> Result<(), Fail> {
 #[test]
 fn other_words_are_usage(rt: HostRuntime) -> Result<(), Fail> {
     let text = file(rt.alloc(), "10", "1000000", "")?;
-    for line in ["run x", "", "--help", "Run", "rate 5 64"] {
+    for line in ["run x", "", "--help", "Run", "rate 5"] {
         let mut source = MemSource::new(
             bytes_of(rt.alloc(), text.as_str())?,
             64,
@@ -383,7 +383,7 @@ fn a_fault_of_the_sink_leaves_a_beginning(rt: HostRuntime) -> Result<(), Fail> {
 fn answers_have_their_exit_status_and_text(rt: HostRuntime) -> Result<(), Fail> {
     for (status, code, text) in [
         (Status::Done, 0, ""),
-        (Status::Usage, 1, "usage: clock_tool run"),
+        (Status::Usage, 1, "usage: clock_tool run | rate HZ BITS"),
         (Status::ReadFault, 2, "read fault"),
         (Status::Refused(Refusal::TooLong), 3, "refused 0"),
         (Status::Refused(Refusal::NotToml), 3, "refused 1"),

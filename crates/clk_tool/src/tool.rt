@@ -1,11 +1,12 @@
-ghost use Rattle.std.specs.Prelude.{◌≡◌, ◌↔◌, ◌⊎◌, ◌≤◌, true, None, IsSome, IfOk, IfErr, map, string_bytes};
+ghost use Rattle.std.specs.Prelude.{◌≡◌, ◌↔◌, ◌⊎◌, ◌≤◌, true, None, IfOk, IfErr};
 ghost use Rattle.clk_base.specs.Causes.{Rose, Grew, GrewByPrefix};
 ghost use Rattle.clk_tool.specs.Built.{is_built};
-ghost use Rattle.clk_tool.specs.Commands.{command_of};
-ghost use Rattle.clk_tool.specs.Answers.{Ran, CameMachine, Traced, status_of, IsCause, HoldsMachine, IsSilent, IsOfFile, IsOfRun};
+ghost use Rattle.clk_tool.specs.Commands.{command_asked};
+ghost use Rattle.clk_tool.specs.Answers.{Answered, IsRate, CameMachine, Traced, status_of, IsCause, HoldsMachine, IsSilent, IsOfFile, IsOfRun};
 
 use crate::built::is_built;
 use crate::command::{Command, command_in};
+use crate::rate::rate_command;
 use crate::run::run_machine;
 use crate::source::Source;
 use crate::status::{Refusal, Status};
@@ -18,7 +19,8 @@ use std::alloc::Global;
 /// The program, over any source, sink and gate. `words` are those of the command line, without the program's name.
 ///
 /// With `run` it reads the source to its end, runs the machine that the bytes describe, and writes its trace into the
-/// sink. Each script word passes the gate before it is made. It waits on nothing, and returns.
+/// sink. Each script word passes the gate before it is made. With `rate HZ BITS` it leaves the source alone and writes
+/// what [`rate_command`] writes. It waits on nothing, and returns.
 pub fn clock_tool<R, S: Source, K: Sink, G: Gate>(
     _rt: &R,
     alloc: Global,
@@ -27,29 +29,36 @@ pub fn clock_tool<R, S: Source, K: Sink, G: Gate>(
     sink: &mut K,
     gate: &G,
 ) -> Status
-    // On `Done` the source was read to its end, and the text of a lawful trace of the machine that its bytes describe
-    // was written, whole.
+    // On `Done` the answer of the command was written, whole. With `run` the source was read to its end, and it is the
+    // text of a lawful trace of the machine that its bytes describe. With `rate` it is the text of the rate.
     ensures done { result ≡ Status.Done →
-        Ran LIMIT (S.rest source.old) (S.rest source.new) (Grew (K.written sink.old) (K.written sink.new)) }
+        Answered (command_asked words.now) LIMIT (S.rest source.old) (S.rest source.new)
+        (Grew (K.written sink.old) (K.written sink.new)) }
 
     // The causes of the other answers.
-    ensures usage { (result ≡ Status.Usage) ↔ (command_of (map (λ w. string_bytes w) words.now) ≡ None) }
+    ensures usage { (result ≡ Status.Usage) ↔ (command_asked words.now ≡ None) }
     ensures read_fault { result ≡ Status.ReadFault → Rose (S.faults source.old) (S.faults source.new) }
     ensures refused { (refusal : Refusal) → result ≡ Status.Refused refusal →
         IsCause LIMIT (S.rest source.old) (S.rest source.new) refusal }
     ensures write_fault { result ≡ Status.WriteFault → Rose (K.faults sink.old) (K.faults sink.new) }
     ensures cut { result ≡ Status.WriteFault →
-        Ran LIMIT (S.rest source.old) (S.rest source.new) (GrewByPrefix (K.written sink.old) (K.written sink.new)) }
+        Answered (command_asked words.now) LIMIT (S.rest source.old) (S.rest source.new)
+        (GrewByPrefix (K.written sink.old) (K.written sink.new)) }
 
-    // What stays the same.
+    // What stays the same: the sink where nothing is answered, and the source but for `run`.
     ensures silent { IsSilent result → sink.new ≡ sink.old }
-    ensures untouched { result ≡ Status.Usage → source.new ≡ source.old }
+    ensures untouched { ¬ (command_asked words.now ≡ Some Command.Run) → source.new ≡ source.old }
     ensures counts { (S.faults source.old ≤ S.faults source.new) × (K.faults sink.old ≤ K.faults sink.new) }
 
-    // Where the source holds a machine and neither end failed, only want of memory is left.
-    ensures complete { IsSome (command_of (map (λ w. string_bytes w) words.now)) → HoldsMachine LIMIT (S.rest source.old) →
+    // With `run`, where the source holds a machine and neither end failed, only want of memory is left.
+    ensures complete { command_asked words.now ≡ Some Command.Run → HoldsMachine LIMIT (S.rest source.old) →
         ¬ Rose (S.faults source.old) (S.faults source.new) → ¬ Rose (K.faults sink.old) (K.faults sink.new) →
         (result ≡ Status.Done) ⊎ (result ≡ Status.Memory) }
+
+    // With `rate` only a fault of the sink is left, and nothing where it did not fail.
+    ensures rate { IsRate (command_asked words.now) → (result ≡ Status.Done) ⊎ (result ≡ Status.WriteFault) }
+    ensures rate_complete { IsRate (command_asked words.now) →
+        ¬ Rose (K.faults sink.old) (K.faults sink.new) → result ≡ Status.Done }
 {
     match command_in(words) {
         None => Status::Usage,
@@ -57,6 +66,7 @@ pub fn clock_tool<R, S: Source, K: Sink, G: Gate>(
             Ok(machine) => trace_into(alloc, machine, sink, gate),
             Err(status) => status,
         },
+        Some(Command::Rate { hz, bits }) => rate_command(hz, bits, sink),
     }
 }
 

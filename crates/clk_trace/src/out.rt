@@ -13,18 +13,22 @@ const SIZE: usize = 8192;
 #[derive(Clone, Copy, PartialEq, Eq, Debug)]
 pub struct WriteFault;
 
-/// A word of a line: a name, or a number in decimal.
+/// A word of a line: a name as it is, or a number in decimal, a negative one with `-` before it.
 #[derive(Clone, Copy)]
-pub(crate) enum Part {
+pub enum Part {
+    /// These letters. A reader of the line tells words apart by spaces, so it should have none.
     Name(&'static str),
+    /// A number from 0 on.
     Unsigned(u64),
+    /// A number of either sign.
     Signed(i64),
 }
 
-/// Text on its way to a sink. A failed write is kept, and nothing is written after it, so that a text is formatted with
-/// no error exits and `finish` tells how it went.
+/// Text on its way to a sink, line by line, through a buffer of 8 KiB that is part of the value: it takes no memory. A
+/// failed write is kept, and nothing is written after it, so that a text is formatted with no error exits and `finish`
+/// tells how it went. What `finish` was not called for may never reach the sink.
 #[derive(Drop)]
-pub(crate) struct Out {
+pub struct Out {
     buf: [u8; SIZE],
     len: usize,
     failed: bool,
@@ -57,7 +61,7 @@ fn write_all<K: Sink>(sink: &mut K, text: &[u8]) -> Result<(), Failed>
 }
 
 impl Out {
-    /// An empty buffer.
+    /// An empty buffer, with no failed write behind it.
     pub fn new() -> Out
         ensures { result ≡ record { waiting = []; failed = false } }
     {
@@ -129,7 +133,8 @@ impl Out {
         }
     }
 
-    /// Writes a line: its words, parted by spaces.
+    /// Appends a line: its words, parted by one space each, and a line feed. The sink takes a beginning of what was
+    /// appended so far, and the rest waits. Once a write failed, now or before, the text goes nowhere.
     pub fn line<K: Sink>(&mut self, sink: &mut K, first: &Part, rest: &[Part])
         ensures { Takes (progress_of K.written K.faults sink.old self.old)
             (progress_of K.written K.faults sink.new self.new) (line (part_text first.now ∷ map part_text rest.now)) }
@@ -142,7 +147,8 @@ impl Out {
         self.text(sink, b"\n");
     }
 
-    /// Writes what still waits. The error is a write that failed, now or before.
+    /// Writes what still waits; then nothing waits. The error is a write that failed, now or before, and then the sink
+    /// took a beginning of the text that was appended since `new`.
     pub fn finish<K: Sink>(&mut self, sink: &mut K) -> Result<(), WriteFault>
         ensures takes { Takes (progress_of K.written K.faults sink.old self.old)
             (progress_of K.written K.faults sink.new self.new) [] }

@@ -1,0 +1,89 @@
+use crate::memory::{MemSink, MemSource};
+use crate::rate::rate_command;
+use crate::status::Status;
+use crate::sure::SureSink;
+use crate::tool::clock_tool;
+use clk_machine::OpenGate;
+use clk_num::List;
+use std::alloc::{AllocError, Global};
+use std::test::Fail;
+
+// Runs the program with these words over a source of no bytes, and answers its status and what it wrote.
+fn run(alloc: Global, line: &str) -> Result<(Status, Vec<u8>), AllocError> {
+    let mut words = Vec::new(alloc);
+    for word in line.split_whitespace() {
+        words.push(String::from_str(alloc, word)?)?;
+    }
+    let mut source = MemSource::new(List::with_room(alloc, 0)?, 64, List::with_room(alloc, 0)?);
+    let mut sink = SureSink::new(List::with_room(alloc, 100)?);
+    let status = clock_tool(
+        &(),
+        alloc,
+        words.as_slice(),
+        &mut source,
+        &mut sink,
+        &OpenGate,
+    );
+    Ok((status, Vec::from_slice(alloc, sink.bytes().items())?))
+}
+
+#[test]
+fn rates_are_those_of_the_worked_rows(rt: HostRuntime) -> Result<(), Fail> {
+    for (line, want) in [
+        (
+            "rate 1000000000 64",
+            "mult 2097152\nshift 21\nwrap 4398046511103\n",
+        ),
+        (
+            "rate 24000000 56",
+            "mult 87381333\nshift 21\nwrap 4398046511097\n",
+        ),
+        (
+            "rate 2400000000 64",
+            "mult 1747627\nshift 22\nwrap 2199023255551\n",
+        ),
+        ("rate 1 8", "mult 4000000000\nshift 2\nwrap 127500000000\n"),
+    ] {
+        let (status, written) = run(rt.alloc(), line)?;
+        assert_eq!(rt; status, Status::Done, "at {line}");
+        assert_eq!(rt; written.as_slice(), want.as_bytes(), "at {line}");
+    }
+    Ok(())
+}
+
+#[test]
+fn words_beside_the_range_are_usage(rt: HostRuntime) -> Result<(), Fail> {
+    for line in [
+        "rate 0 64",
+        "rate 01 64",
+        "rate +1 64",
+        "rate 4294967296 64",
+        "rate 5 0",
+        "rate 5 65",
+        "rate 5 0x8",
+        "rate 5 64 64",
+        "Rate 5 64",
+        "run x",
+        "",
+    ] {
+        let (status, written) = run(rt.alloc(), line)?;
+        assert_eq!(rt; status, Status::Usage, "at {line}");
+        assert!(rt; written.is_empty(), "at {line}");
+    }
+    for line in ["rate 4294967295 64", "rate 5 1"] {
+        let (status, _) = run(rt.alloc(), line)?;
+        assert_eq!(rt; status, Status::Done, "at {line}");
+    }
+    Ok(())
+}
+
+#[test]
+fn a_fault_of_the_sink_leaves_a_beginning_of_the_rate(rt: HostRuntime) -> Result<(), Fail> {
+    let fails = List::from_vec(vec![in rt.alloc(); 2u64]?);
+    let mut sink = MemSink::new(List::with_room(rt.alloc(), 100)?, 16, fails);
+    let status = rate_command(1_000_000_000, 64, &mut sink);
+    assert_eq!(rt; status, Status::WriteFault);
+    assert_eq!(rt; sink.bytes().items(), b"mult 2097152\nshi".as_slice());
+    assert_eq!(rt; sink.faults(), 1);
+    Ok(())
+}
