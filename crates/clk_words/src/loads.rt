@@ -1,6 +1,7 @@
 //! The loads, each of one word.
 ghost use Rattle.std.specs.Prelude.{◌≡◌, ◌<◌};
 ghost use Rattle.clk_words.specs.Kinds.{cpu_of};
+ghost use Rattle.clk_words.specs.Bounds.{IsRaw};
 ghost use Rattle.clk_words.specs.Knowing.{HasFoundPerCpu, IsReading};
 ghost use Rattle.clk_words.specs.Held.{place_of};
 ghost use Rattle.clk_words.specs.Told.{Loads, FindsGtod, FindsRaw};
@@ -46,13 +47,14 @@ impl Words {
         value_of(self.table.shared.load::<RawLoad>(&mut seat.at, word))
     }
 
-    /// The offset between GTOD and the per-CPU clocks, in ns, which does not change. It makes no step.
+    /// The offset between GTOD and the per-CPU clocks, within 2^59 ns of 0, which does not change. It makes no step.
     pub fn load_offset(&self, seat: &mut Seat) -> i64
         requires own { place_of seat.old ≡ self.now }
         requires found { HasFoundPerCpu seat.old.view }
         requires reading { IsReading seat.old.view.kind }
         ensures seat { seat.new ≡ seat.old }
         ensures value { result ≡ seat.old.view.start.opening.offset }
+        ensures range { IsRaw result }
     {
         let _ = seat;
         self.offset

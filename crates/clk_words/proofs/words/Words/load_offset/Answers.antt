@@ -6,3 +6,8 @@ pub returns-clause-value : goal.returns-clause-value
 returns-clause-value c =
     let fits : FitsSigned w64 c.self.inside.offset = search rules in
     rw (to_z-of_z fits) (c.self.invariant.offset_is ∙ ap (λ (p : Place). p.start.opening.offset) (c.self.view_is ∙ sym c.requires.own))
+
+pub returns-clause-range : goal.returns-clause-range
+returns-clause-range c =
+    let fits : FitsSigned w64 c.self.inside.offset = search rules in
+    rw (to_z-of_z fits, c.self.invariant.offset_is) c.self.invariant.opening.offset

@@ -1,0 +1,185 @@
+-- Lemmas on what calls show: the parts of a raised reading, of a stamp and of a tick, put together.
+use Rattle.std.proofs.Common.{◌≡◌, ℕ, ℤ, ◌≤ℤ◌, true, List, [], ◌∷◌, ◌++◌, sym, ap, ◌∙◌, subst, Some, arith, append_assoc, append-nil}
+use Rattle.std.proofs.lemmas.Int.{ints, clamps}
+use Rattle.clk_num.specs.Clamp.{raise}
+use Rattle.clk_words.specs.declared.opening.Start.{Start}
+use Rattle.clk_words.specs.declared.step.Step.{Step}
+use Rattle.clk_words.specs.declared.step.Why.{Why}
+use Rattle.clk_words.specs.declared.step.Why.TheVariants.{Raise}
+use Rattle.clk_words.specs.declared.view.View.{View}
+use Rattle.clk_words.specs.declared.view.Load.{Load}
+use Rattle.clk_words.specs.declared.view.Name.{Name}
+use Rattle.clk_words.specs.declared.view.Name.TheVariants.{Raw, Gtod}
+use Rattle.clk_words.specs.declared.view.Part.{Part}
+use Rattle.clk_words.specs.Histories.{opens_at, value_after}
+use Rattle.clk_words.specs.Kinds.{cpu_of}
+use Rattle.clk_words.specs.Calls.{KeepsSeat}
+use Rattle.clk_words.specs.Knowing.{IsOwner, StampsAreWhole}
+use Rattle.clk_words.specs.Parts.{gtod_of, raw_of, part_of, last_from}
+use Rattle.clk_words.specs.Rights.{has_number}
+use Rattle.clk_words.specs.Targets.{target}
+use Rattle.clk_words.specs.Told.{Finds, FindsRaw, FindsGtod, stamped}
+use Rattle.clk_words.proofs.Registers.{put_here, put_else, last_more}
+use Rattle.clk_words.proofs.Turns.{whole_gtod, whole_raw, owner_gtod, owner_raw}
+use Rattle.clk_machine.specs.declared.reading.RawReading.{RawReading}
+use Rattle.clk_latch.specs.Calls.{DrawsTicket, Reads}
+use Rattle.clk_local.specs.declared.events.IdleEvent.{IdleEvent}
+use Rattle.clk_local.specs.declared.raise.Since.{Since}
+use Rattle.clk_local.specs.Context.{Site, Known, MayStamp}
+use Rattle.clk_local.specs.Raising.{FindsPair, Raises, clock_loads, own_step, shown_on, why_of}
+use Rattle.clk_local.specs.Shows.{ShowsRaised, ShowsStamp, ShowsTicked, ShowsReading, ShowsTick, ShowsIdle}
+
+-- the loads of the pair and then those of the clock word
+pair_loads : (cpu : ℕ) (v pair w : View) (tick_raw tick_gtod : ℤ) (s : Step) → cpu ≡ cpu_of v.kind → s.word ≡ cpu → (f : FindsPair v tick_raw tick_gtod pair) → (r : Raises pair s w)
+    → w.loads ≡ v.loads ++ (record { of = Raw cpu; value = tick_raw }) ∷ (record { of = Gtod cpu; value = tick_gtod }) ∷ clock_loads cpu (r.lost ++ s.old ∷ [])
+pair_loads cpu v pair w tick_raw tick_gtod s here word f r =
+    let raw : Load = record { of = Raw cpu; value = tick_raw } in
+    let gtod : Load = record { of = Gtod cpu; value = tick_gtod } in
+    let one : f.half.loads ≡ v.loads ++ raw ∷ [] =
+    ap (λ (u : View). u.loads) f.first.finds.view_is ∙ ap (λ k. v.loads ++ (record { of = Raw k; value = tick_raw }) ∷ []) (sym here) in
+    let two : pair.loads ≡ f.half.loads ++ gtod ∷ [] =
+    ap (λ (u : View). u.loads) f.second.finds.view_is ∙ ap (λ k. f.half.loads ++ (record { of = Gtod k; value = tick_gtod }) ∷ []) (sym here) in
+    let rest : w.loads ≡ pair.loads ++ clock_loads cpu (r.lost ++ s.old ∷ []) =
+    ap (λ (u : View). u.loads) r.view_is ∙ ap (λ k. pair.loads ++ clock_loads k (r.lost ++ s.old ∷ [])) word in
+    rest
+    ∙ ap (λ ls. ls ++ clock_loads cpu (r.lost ++ s.old ∷ [])) (two ∙ ap (λ ls. ls ++ gtod ∷ []) one)
+    ∙ append_assoc (v.loads ++ raw ∷ []) (gtod ∷ []) (clock_loads cpu (r.lost ++ s.old ∷ []))
+    ∙ append_assoc v.loads (raw ∷ []) (gtod ∷ clock_loads cpu (r.lost ++ s.old ∷ []))
+
+-- what the loads of a pair leave as it was
+pair_seen : (v pair : View) (tick_raw tick_gtod : ℤ) → FindsPair v tick_raw tick_gtod pair → pair.seen ≡ v.seen
+pair_seen v pair tick_raw tick_gtod f = ap (λ (u : View). u.seen) f.second.finds.view_is ∙ ap (λ (u : View). u.seen) f.first.finds.view_is
+
+pair_mine : (v pair : View) (tick_raw tick_gtod : ℤ) → FindsPair v tick_raw tick_gtod pair → pair.mine ≡ v.mine
+pair_mine v pair tick_raw tick_gtod f = ap (λ (u : View). u.mine) f.second.finds.view_is ∙ ap (λ (u : View). u.mine) f.first.finds.view_is
+
+same_step : (v pair : View) (call : ℕ) (since : Since) (raw old : ℤ) → KeepsSeat v pair → since.raw ≡ raw → since.offset ≡ v.start.opening.offset
+    → own_step pair call (why_of since) old ≡ own_step v call (Raise raw since.tick_raw since.tick_gtod v.start.opening.offset) old
+same_step v pair call since raw old kept is offset =
+    ap (λ n. record (own_step pair call (why_of since) old) { by = n }) kept.number_is
+    ∙ ap (λ k. record (own_step pair call (why_of since) old) { by = v.number; word = cpu_of k }) kept.kind_is
+    ∙ ap (λ (o : Start). record (own_step v call (why_of since) old) { new = raise old (target o.tick (why_of since)) }) kept.start_is
+    ∙ ap (λ x. own_step v call (Raise x since.tick_raw since.tick_gtod since.offset) old) is
+    ∙ ap (λ x. own_step v call (Raise raw since.tick_raw since.tick_gtod x) old) offset
+
+step_rises : (v : View) (call : ℕ) (why : Why) (s : Step) → s ≡ own_step v call why s.old → s.old ≤ℤ s.new
+step_rises v call why s is = let e = ap (λ (t : Step). t.new) is in rw e (omega (arith, ints, clamps))
+
+pub shows_raised : (z : Site) (v w : Known) (pair : View) (raw : RawReading) (since : Since) (step : Step)
+    → z.cpu ≡ cpu_of v.view.kind → DrawsTicket v.time raw.ticket w.time → Reads z.machine z.cpu z.adjust v.epoch w.epoch raw
+    → FindsPair v.view since.tick_raw since.tick_gtod pair → since.raw ≡ raw.ns → since.offset ≡ v.view.start.opening.offset → KeepsSeat v.view pair
+    → step ≡ own_step pair z.call (why_of since) step.old → Raises pair step w.view → ShowsRaised z v raw step w
+shows_raised z v w pair raw since step here draws reads finds is offset kept step_is raises = record {
+  tick_raw = since.tick_raw;
+  tick_gtod = since.tick_gtod;
+  pair = pair;
+  reads = record { draws = draws; reads = reads };
+  finds = finds;
+  raises = raises;
+  step_is = same;
+  mine_is = ap (λ (u : View). u.mine) raises.view_is ∙ ap (λ ss. ss ++ step ∷ []) (pair_mine _ _ _ _ finds);
+  seen_is = ap (λ (u : View). u.seen) raises.view_is ∙ ap (λ ss. (ss ++ raises.between) ++ step ∷ []) (pair_seen _ _ _ _ finds);
+  loads_is = pair_loads z.cpu v.view pair w.view since.tick_raw since.tick_gtod step here word finds raises;
+  pairs_is = ap (λ (u : View). u.pairs) raises.view_is;
+  above = above;
+  rises = step_rises v.view z.call _ step same;
+}
+  where
+    same : step ≡ own_step v.view z.call (Raise raw.ns since.tick_raw since.tick_gtod v.view.start.opening.offset) step.old
+    same = step_is ∙ same_step v.view pair z.call since raw.ns step.old kept is offset
+
+    word : step.word ≡ z.cpu
+    word = ap (λ (t : Step). t.word) same ∙ sym here
+
+    start_seen : shown_on step.word pair ≡ shown_on z.cpu v.view
+    start_seen =
+        ap (λ (o : Start). value_after (opens_at o) step.word pair.seen) kept.start_is
+        ∙ ap (λ ss. value_after (opens_at v.view.start) step.word ss) (pair_seen _ _ _ _ finds)
+        ∙ ap (λ k. shown_on k v.view) word
+
+    above : shown_on z.cpu v.view ≤ℤ step.old
+    above = subst (λ x. x ≤ℤ step.old) start_seen raises.above
+
+-- ---- stamps
+
+-- a load that adds nothing finds the last value that was known
+known_last : (v w : View) (r : ℕ) (name : Name) (x y : ℤ) (ys : List ℤ) (f : Finds v r name x w) → f.more ≡ [] → (part_of v.pairs.parts r).after ≡ ys ++ y ∷ [] → x ≡ y
+known_last v w r name x y ys f none is =
+    sym f.last_is ∙ ap (last_from f.stamp) (ap (λ zs. (part_of v.pairs.parts r).after ++ zs) none ∙ append-nil (part_of v.pairs.parts r).after ∙ is) ∙ last_more f.stamp y ys
+
+-- the last values of both registers after a stamp
+raw_last : (v w : View) (cpu : ℕ) (gtod raw : ℤ) → w ≡ stamped (raw_of cpu) raw (stamped (gtod_of cpu) gtod v)
+    → (part_of w.pairs.parts (raw_of cpu)).after ≡ (part_of (stamped (gtod_of cpu) gtod v).pairs.parts (raw_of cpu)).after ++ raw ∷ []
+raw_last v w cpu gtod raw is =
+    let u = stamped (gtod_of cpu) gtod v in
+    ap (λ (x : View). (part_of x.pairs.parts (raw_of cpu)).after) is
+    ∙ ap (λ (p : Part). p.after) (put_here u.pairs.parts (raw_of cpu) (record { zero = (part_of u.pairs.parts (raw_of cpu)).zero; after = (part_of u.pairs.parts (raw_of cpu)).after ++ raw ∷ [] }))
+
+gtod_last : (v w : View) (cpu : ℕ) (gtod raw : ℤ) → w ≡ stamped (raw_of cpu) raw (stamped (gtod_of cpu) gtod v)
+    → (part_of w.pairs.parts (gtod_of cpu)).after ≡ (part_of v.pairs.parts (gtod_of cpu)).after ++ gtod ∷ []
+gtod_last v w cpu gtod raw is =
+    let u = stamped (gtod_of cpu) gtod v in
+    ap (λ (x : View). (part_of x.pairs.parts (gtod_of cpu)).after) is
+    ∙ ap (λ (p : Part). p.after)
+    (put_else u.pairs.parts (raw_of cpu) (gtod_of cpu) (record { zero = (part_of u.pairs.parts (raw_of cpu)).zero; after = (part_of u.pairs.parts (raw_of cpu)).after ++ raw ∷ [] }) (λ e. omega arith)
+    ∙ put_here v.pairs.parts (gtod_of cpu) (record { zero = (part_of v.pairs.parts (gtod_of cpu)).zero; after = (part_of v.pairs.parts (gtod_of cpu)).after ++ gtod ∷ [] }))
+
+-- the load of a raw value leaves what is known of the GTODs
+gtod_left : (v w : View) (cpu : ℕ) (name : Name) (x : ℤ) → Finds v (raw_of cpu) name x w → (part_of w.pairs.parts (gtod_of cpu)).after ≡ (part_of v.pairs.parts (gtod_of cpu)).after
+gtod_left v w cpu name x f =
+    let p = part_of v.pairs.parts (raw_of cpu) in
+    ap (λ (u : View). (part_of u.pairs.parts (gtod_of cpu)).after) f.view_is
+    ∙ ap (λ (q : Part). q.after) (put_else v.pairs.parts (raw_of cpu) (gtod_of cpu) (record { zero = Some f.stamp; after = p.after ++ f.more }) (λ e. omega arith))
+
+-- an owner that stamped loads the pair of that stamp
+pub own_pair : (v u pair : View) (tick_raw tick_gtod gtod raw : ℤ) → u ≡ stamped (raw_of (cpu_of v.kind)) raw (stamped (gtod_of (cpu_of v.kind)) gtod v) → IsOwner v
+    → FindsPair u tick_raw tick_gtod pair → (tick_raw ≡ raw) × (tick_gtod ≡ gtod)
+own_pair v u pair tick_raw tick_gtod gtod raw is owner f =
+    let cpu = cpu_of v.kind in
+    let kind : cpu_of u.kind ≡ cpu = ap (λ (x : View). cpu_of x.kind) is in
+    let first : FindsRaw u cpu tick_raw f.half = subst (λ k. FindsRaw u k tick_raw f.half) kind f.first in
+    let second : FindsGtod f.half cpu tick_gtod pair = subst (λ k. FindsGtod f.half k tick_gtod pair) kind f.second in
+    let owns : has_number u.pairs.owns cpu ≡ true = ap (λ (x : View). has_number x.pairs.owns cpu) is ∙ owner in
+    let owns_half : has_number f.half.pairs.owns cpu ≡ true = ap (λ (x : View). has_number x.pairs.owns cpu) first.finds.view_is ∙ owns in (
+      known_last u f.half (raw_of cpu) _ tick_raw raw _ first.finds (first.whole owns) (raw_last v u cpu gtod raw is),
+      known_last f.half pair (gtod_of cpu) _ tick_gtod gtod _ second.finds (second.whole owns_half) (gtod_left u f.half cpu _ tick_raw first.finds ∙ gtod_last v u cpu gtod raw is),
+    )
+
+-- a raised reading leaves to an owner the right to stamp
+pub owner_raised : (z : Site) (v w : Known) (raw : RawReading) (step : Step) → ShowsRaised z v raw step w → MayStamp v.view → MayStamp w.view
+owner_raised z v w raw step shows may =
+    let f = shows.finds in
+    let cpu = cpu_of v.view.kind in
+    let half_kind : cpu_of f.half.kind ≡ cpu = ap (λ (x : View). cpu_of x.kind) f.first.finds.view_is in
+    let second : FindsGtod f.half (cpu_of f.half.kind) shows.tick_gtod shows.pair = subst (λ k. FindsGtod f.half k shows.tick_gtod shows.pair) (sym half_kind) f.second in
+    let owner_half = owner_raw v.view f.half shows.tick_raw f.first may.owner in
+    let whole_half = whole_raw v.view f.half shows.tick_raw f.first may.owner may.whole in
+    record {
+      owner = subst IsOwner (sym shows.raises.view_is) (owner_gtod f.half shows.pair shows.tick_gtod second owner_half);
+      whole = subst StampsAreWhole (sym shows.raises.view_is) (whole_gtod f.half shows.pair shows.tick_gtod second owner_half whole_half);
+    }
+
+-- a tick, whose reading was made at the same site
+pub shows_ticked : (y z : Site) (v u w : Known) (gtod_ticket : ℕ) (gtod : ℤ) (stamp raw : RawReading) (step : Step) → z.cpu ≡ cpu_of v.view.kind → IsOwner v.view
+    → y ≡ z → ShowsStamp z v gtod_ticket gtod stamp u → ShowsRaised y u raw step w
+    → ShowsTicked z v gtod_ticket gtod stamp raw step w
+shows_ticked y z v u w gtod_ticket gtod stamp raw step here owner same stamps raised = record {
+  between = u;
+  stamps = stamps;
+  raises = raises;
+  pair_is =
+      ap (λ (s : Step). s.why) raises.step_is
+      ∙ ap (λ x. Raise raw.ns x raises.tick_gtod u.view.start.opening.offset) pair.0
+      ∙ ap (λ x. Raise raw.ns stamp.ns x u.view.start.opening.offset) pair.1
+      ∙ ap (λ (x : View). Raise raw.ns stamp.ns gtod x.start.opening.offset) stamps.view_is;
+}
+  where
+    raises : ShowsRaised z u raw step w
+    raises = subst (λ x. ShowsRaised x u raw step w) same raised
+
+    pair : (raises.tick_raw ≡ stamp.ns) × (raises.tick_gtod ≡ gtod)
+    pair = own_pair v.view u.view raises.pair raises.tick_raw raises.tick_gtod gtod stamp.ns (subst (λ k. u.view ≡ stamped (raw_of k) stamp.ns (stamped (gtod_of k) gtod v.view)) here stamps.view_is) owner raises.finds
+
+-- a reading and then a tick
+pub shows_idle : (y z : Site) (v u w : Known) (e : IdleEvent) → y ≡ z → ShowsReading z v e.read u → ShowsTick y u e.tick w → ShowsIdle z v e w
+shows_idle y z v u w e same reads ticks = record { between = u; reads = reads; ticks = subst (λ x. ShowsTick x u e.tick w) same ticks }

@@ -1,0 +1,30 @@
+//! What a thread does at its CPU's clock: a local read, a tick, and an idle event.
+//!
+//! A local read takes a raw reading and raises its CPU's clock word to the time at the last tick's stamp and what has
+//! passed since, at most one tick, after `sched_clock_local` of Linux 6.1's `kernel/sched/clock.c`. A tick stamps the CPU
+//! and then reads, after `sched_clock_tick`. An idle event is a local read and then a tick, after
+//! `sched_clock_idle_wakeup_event`. The names `tick_raw` and `tick_gtod` are those of `struct sched_clock_data`.
+//!
+//! It promises that a reading is the new value of one step in the history of the clock words, that this step shows the
+//! raw reading and the loaded pair that its target came from, and that it is nowhere below what the thread's seat had seen
+//! of the word. The step of a tick shows the pair of that tick's own stamp. No call waits or takes memory.
+//!
+//! It promises no order between threads beyond that history, and no bound on how often an exchange is lost: each lost one
+//! shows that another thread raised the word.
+//!
+//! How it works: a thread keeps its seats in a [`Ctx`]. A call is told of what they had before and after it
+//! (`specs/Shows.antt`), so that the calls of a thread are a chain of events.
+#![tactic(auto)]
+
+mod context;
+mod events;
+mod raise;
+mod readings;
+#[cfg(test)]
+mod tests;
+mod ticks;
+
+pub use context::Ctx;
+pub use events::{IdleEvent, Reading, TickEvent};
+pub use readings::{local, local_raised};
+pub use ticks::{idle, tick};

@@ -1,0 +1,76 @@
+//! The tick and the idle event, of a CPU's owner.
+ghost use Rattle.std.specs.Prelude.{◌≡◌, ◌≤◌};
+ghost use Rattle.clk_local.specs.Context.{site_of, known_of, IsUsable, MayStamp, Keeps};
+ghost use Rattle.clk_local.specs.Shows.{ShowsStamp, ShowsTick, ShowsIdle, IsPerCpu, HasTicked};
+
+use crate::context::Ctx;
+use crate::events::{IdleEvent, TickEvent};
+use crate::readings::{local, local_raised};
+use clk_latch::Epochs;
+use clk_machine::RawReading;
+
+/// A tick: a stamp, and a local read that goes by it. The seat may stamp its CPU, and as many raws as GTODs follow stamp 0
+/// by its view. It draws three tickets, and takes no memory and does not wait. After `sched_clock_tick` of Linux 6.1.
+pub fn tick<E: Epochs>(ctx: &mut Ctx<'_, E>) -> TickEvent
+    requires usable { IsUsable E.fits ctx.old }
+    requires stamp { MayStamp ctx.old.seat.view }
+    requires tickets { 3 ≤ ctx.old.time.left }
+    ensures keeps { Keeps E.fits ctx.old ctx.new }
+    ensures ticked { HasTicked result }
+    ensures shows { ShowsTick (site_of ctx.old) (known_of E.epoch ctx.old) result (known_of E.epoch ctx.new) }
+{
+    let stamp = store_stamp(ctx);
+    let (raw, step) = local_raised(ctx);
+    TickEvent::Ticked {
+        gtod_ticket: stamp.gtod_ticket,
+        gtod: stamp.gtod,
+        stamp: stamp.raw,
+        raw,
+        step,
+    }
+}
+
+/// An idle event: a local read, and then a tick with its conditions. It draws four tickets, and takes no memory and does
+/// not wait. After `sched_clock_idle_wakeup_event` of Linux 6.1, which has the tick alone.
+pub fn idle<E: Epochs>(ctx: &mut Ctx<'_, E>) -> IdleEvent
+    requires usable { IsUsable E.fits ctx.old }
+    requires stamp { MayStamp ctx.old.seat.view }
+    requires tickets { 4 ≤ ctx.old.time.left }
+    ensures keeps { Keeps E.fits ctx.old ctx.new }
+    ensures percpu { IsPerCpu result.read }
+    ensures ticked { HasTicked result.tick }
+    ensures shows { ShowsIdle (site_of ctx.old) (known_of E.epoch ctx.old) result (known_of E.epoch ctx.new) }
+{
+    let read = local(ctx);
+    let tick = tick(ctx);
+    IdleEvent { read, tick }
+}
+
+// A stamp that was stored.
+#[derive(Clone, Copy)]
+struct Stamp {
+    gtod_ticket: u64,
+    gtod: i64,
+    raw: RawReading,
+}
+
+// Stores a stamp, its GTOD first: so no reader finds a GTOD that is older than the raw value which it has found.
+fn store_stamp<E: Epochs>(ctx: &mut Ctx<'_, E>) -> Stamp
+    requires usable { IsUsable E.fits ctx.old }
+    requires stamp { MayStamp ctx.old.seat.view }
+    requires tickets { 2 ≤ ctx.old.time.left }
+    ensures keeps { Keeps E.fits ctx.old ctx.new }
+    ensures shows { ShowsStamp
+        (site_of ctx.old) (known_of E.epoch ctx.old) result.gtod_ticket result.gtod result.raw (known_of E.epoch ctx.new) }
+{
+    let gtod_ticket = ctx.tickets.draw(&mut ctx.time, 1);
+    let gtod = ctx.counter.machine.gtod(gtod_ticket);
+    ctx.words.stamp_gtod(&mut ctx.seat, gtod);
+    let raw = ctx.epochs.read(&mut ctx.latch_seat, ctx.tickets, &mut ctx.time, ctx.counter);
+    ctx.words.stamp_raw(&mut ctx.seat, raw.ns);
+    Stamp {
+        gtod_ticket,
+        gtod,
+        raw,
+    }
+}
