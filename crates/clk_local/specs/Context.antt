@@ -1,7 +1,7 @@
 -- What contracts see of a thread's context, what each call asks of it, and what each call keeps.
-use Rattle.std.specs.Prelude.{◌≡◌, ℕ, ◌<◌, ℤ}
+use Rattle.std.specs.Prelude.{◌≡◌, ℕ, ◌+◌, ◌<◌, ℤ}
 use Rattle.clk_num.specs.Range.{IsNear}
-use Rattle.clk_ticket.specs.Time.{Time}
+use Rattle.clk_ticket.specs.Time.{Time, share_of}
 use Rattle.clk_words.specs.declared.view.View.{View}
 use Rattle.clk_words.specs.Kinds.{cpu_of}
 use Rattle.clk_words.specs.Held.{place_of}
@@ -60,3 +60,9 @@ pub record Keeps {E S : Type 0} (fits : E → S → Type 0) (before after : Ctx 
   pub seat : KeepsSeat before.seat.view after.seat.view
   pub usable : IsUsable fits after
   pub may_stamp : MayStamp before.seat.view → MayStamp after.seat.view
+
+-- n tickets were drawn from what was left to the seat, and its share of them all is the same
+pub record Spends (n : ℕ) (before after : Time) : Type 0 where
+  pub table_is : after.table ≡ before.table
+  pub left : after.left + n ≡ before.left
+  pub share : share_of after ≡ share_of before

@@ -6,6 +6,7 @@ use clk_words::{Seat, Words};
 /// What a thread stands on: its seats, and the objects that they belong to.
 ///
 /// Contracts see `Site` and `Known` of it (`specs/Context.antt`), and `IsUsable` is what each call asks of it.
+#[derive(Drop)]
 pub struct Ctx<'a, E: Epochs> {
     /// The clock words, made with the machine's tick.
     pub words: &'a Words,

@@ -1,6 +1,6 @@
 //! The local read.
 ghost use Rattle.std.specs.Prelude.{◌≡◌, ◌≤◌};
-ghost use Rattle.clk_local.specs.Context.{site_of, known_of, IsUsable, Keeps};
+ghost use Rattle.clk_local.specs.Context.{site_of, known_of, IsUsable, Keeps, Spends};
 ghost use Rattle.clk_local.specs.Shows.{ShowsRaised, ShowsReading, IsPerCpu};
 
 use crate::context::Ctx;
@@ -15,6 +15,7 @@ pub fn local<E: Epochs>(ctx: &mut Ctx<'_, E>) -> Reading
     requires usable { IsUsable E.fits ctx.old }
     requires ticket { 1 ≤ ctx.old.time.left }
     ensures keeps { Keeps E.fits ctx.old ctx.new }
+    ensures spends { Spends 1 ctx.old.time ctx.new.time }
     ensures percpu { IsPerCpu result }
     ensures shows { ShowsReading (site_of ctx.old) (known_of E.epoch ctx.old) result (known_of E.epoch ctx.new) }
 {
@@ -28,6 +29,7 @@ pub fn local_raised<E: Epochs>(ctx: &mut Ctx<'_, E>) -> (RawReading, Step)
     requires usable { IsUsable E.fits ctx.old }
     requires ticket { 1 ≤ ctx.old.time.left }
     ensures keeps { Keeps E.fits ctx.old ctx.new }
+    ensures spends { Spends 1 ctx.old.time ctx.new.time }
     ensures shows { ShowsRaised (site_of ctx.old) (known_of E.epoch ctx.old) result.0 result.1 (known_of E.epoch ctx.new) }
 {
     let raw = ctx.epochs.read(&mut ctx.latch_seat, ctx.tickets, &mut ctx.time, ctx.counter);

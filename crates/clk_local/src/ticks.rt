@@ -1,6 +1,6 @@
 //! The tick and the idle event, of a CPU's owner.
 ghost use Rattle.std.specs.Prelude.{◌≡◌, ◌≤◌};
-ghost use Rattle.clk_local.specs.Context.{site_of, known_of, IsUsable, MayStamp, Keeps};
+ghost use Rattle.clk_local.specs.Context.{site_of, known_of, IsUsable, MayStamp, Keeps, Spends};
 ghost use Rattle.clk_local.specs.Shows.{ShowsStamp, ShowsTick, ShowsIdle, IsPerCpu, HasTicked};
 
 use crate::context::Ctx;
@@ -16,6 +16,7 @@ pub fn tick<E: Epochs>(ctx: &mut Ctx<'_, E>) -> TickEvent
     requires stamp { MayStamp ctx.old.seat.view }
     requires tickets { 3 ≤ ctx.old.time.left }
     ensures keeps { Keeps E.fits ctx.old ctx.new }
+    ensures spends { Spends 3 ctx.old.time ctx.new.time }
     ensures ticked { HasTicked result }
     ensures shows { ShowsTick (site_of ctx.old) (known_of E.epoch ctx.old) result (known_of E.epoch ctx.new) }
 {
@@ -37,6 +38,7 @@ pub fn idle<E: Epochs>(ctx: &mut Ctx<'_, E>) -> IdleEvent
     requires stamp { MayStamp ctx.old.seat.view }
     requires tickets { 4 ≤ ctx.old.time.left }
     ensures keeps { Keeps E.fits ctx.old ctx.new }
+    ensures spends { Spends 4 ctx.old.time ctx.new.time }
     ensures percpu { IsPerCpu result.read }
     ensures ticked { HasTicked result.tick }
     ensures shows { ShowsIdle (site_of ctx.old) (known_of E.epoch ctx.old) result (known_of E.epoch ctx.new) }
@@ -60,6 +62,7 @@ fn store_stamp<E: Epochs>(ctx: &mut Ctx<'_, E>) -> Stamp
     requires stamp { MayStamp ctx.old.seat.view }
     requires tickets { 2 ≤ ctx.old.time.left }
     ensures keeps { Keeps E.fits ctx.old ctx.new }
+    ensures spends { Spends 2 ctx.old.time ctx.new.time }
     ensures shows { ShowsStamp
         (site_of ctx.old) (known_of E.epoch ctx.old) result.gtod_ticket result.gtod result.raw (known_of E.epoch ctx.new) }
 {

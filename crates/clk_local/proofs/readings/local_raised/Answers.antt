@@ -1,6 +1,7 @@
 use Rattle.std.proofs.Common.{refl, rules}
 use Rattle.clk_words.proofs.Loading.{kept_both}
 use Rattle.clk_local.proofs.Showing.{shows_raised, owner_raised}
+use Rattle.clk_local.proofs.Spending.{one_ticket}
 use Rattle.clk_local.proofs.readings.local_raised.Goals as goal
 
 pub returns-clause-shows : goal.returns-clause-shows
@@ -19,3 +20,6 @@ returns-clause-keeps g c = record {
   usable = search rules;
   may_stamp = λ may. owner_raised _ _ _ _ _ (returns-clause-shows g c) may;
 }
+
+pub returns-clause-spends : goal.returns-clause-spends
+returns-clause-spends g c = one_ticket _ _ _ c.requires.ticket c.read-raw.ensures.draws

@@ -1,0 +1,20 @@
+use Rattle.std.proofs.Common.{◌≡◌, ◌+◌, ◌*◌}
+use Rattle.clk_ticket.specs.Time.{share_of}
+use Rattle.clk_words.specs.Calls.{KeepsSeat}
+use Rattle.clk_local.specs.Context.{IsUsable, MayStamp}
+use Rattle.clk_local.specs.declared.tests.threads.TheConstants.{OWNERS}
+use Rattle.clk_local.proofs.tests.threads.run_owner.Given as goal
+
+-- the thread may go on, with tickets for the calls to come
+abbrev pub invariant-loop-call : goal.invariant-loop-call
+invariant-loop-call l = record {
+  usable : IsUsable (λ k s. s.latch ≡ k) l.ctx;
+  words : l.ctx.words.now ≡ l.initial.ctx.words.now;
+  latch : l.ctx.epochs.now ≡ l.initial.ctx.epochs.now;
+  tickets : l.ctx.tickets.now ≡ l.initial.ctx.tickets.now;
+  kept : KeepsSeat l.initial.ctx.seat.view l.ctx.seat.view;
+  table : l.ctx.time.table ≡ l.initial.ctx.time.table;
+  stamp : MayStamp l.ctx.seat.view;
+  left : l.ctx.time.left + 4 * l.call ≡ OWNERS;
+  share : share_of l.ctx.time ≡ share_of l.initial.ctx.time;
+}
