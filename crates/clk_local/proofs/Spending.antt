@@ -1,5 +1,5 @@
 -- What calls leave of a thread's tickets.
-use Rattle.std.proofs.Common.{◌≡◌, ℕ, ◌+◌, ◌≤◌, ap, ◌∙◌, arith}
+use Rattle.std.proofs.Common.{ℕ, ◌+◌, ◌≤◌, ap, ◌∙◌, arith}
 use Rattle.clk_ticket.specs.Time.{Time}
 use Rattle.clk_latch.specs.Calls.{DrawsTicket}
 use Rattle.clk_local.specs.Context.{Spends}

@@ -1,5 +1,5 @@
 //! The local read.
-ghost use Rattle.std.specs.Prelude.{◌≡◌, ◌≤◌};
+ghost use Rattle.std.specs.Prelude.{◌≤◌};
 ghost use Rattle.clk_local.specs.Context.{site_of, known_of, IsUsable, Keeps, Spends};
 ghost use Rattle.clk_local.specs.Shows.{ShowsRaised, ShowsReading, IsPerCpu};
 

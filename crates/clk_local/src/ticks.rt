@@ -1,5 +1,5 @@
 //! The tick and the idle event, of a CPU's owner.
-ghost use Rattle.std.specs.Prelude.{◌≡◌, ◌≤◌};
+ghost use Rattle.std.specs.Prelude.{◌≤◌};
 ghost use Rattle.clk_local.specs.Context.{site_of, known_of, IsUsable, MayStamp, Keeps, Spends};
 ghost use Rattle.clk_local.specs.Shows.{ShowsStamp, ShowsTick, ShowsIdle, IsPerCpu, HasTicked};
 

@@ -1,5 +1,5 @@
 //! An owner and a reader of one CPU, on threads of their own.
-ghost use Rattle.std.specs.Prelude.{◌≡◌, ◌*◌, ◌≤◌, IfOk};
+ghost use Rattle.std.specs.Prelude.{◌≡◌, ◌≤◌, IfOk};
 ghost use Rattle.clk_ticket.specs.Time.{share_of};
 ghost use Rattle.clk_machine.specs.Plan.{cpu_count};
 ghost use Rattle.clk_words.specs.Calls.{KeepsSeat};

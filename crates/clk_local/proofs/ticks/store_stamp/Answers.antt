@@ -1,5 +1,5 @@
 use Rattle.clk_local.proofs.Spending.{one_ticket, then_spends}
-use Rattle.std.proofs.Common.{ap, arith}
+use Rattle.std.proofs.Common.{arith}
 use Rattle.clk_local.proofs.ticks.store_stamp.Goals as goal
 
 pub returns-clause-spends : goal.returns-clause-spends
