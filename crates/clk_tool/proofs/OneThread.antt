@@ -1,30 +1,17 @@
 -- A machine whose every form is built has one thread.
-use Rattle.std.proofs.Common.{◌≡◌, ℕ, cond, get_or, sym, ◌∙◌, zero, suc, ◌+◌, ◌^◌, ◌<◌, ◌≤◌, ◌==◌, Bool, true, false, not, ◌&&◌, List, [], ◌∷◌, ◌++◌, map, length, Option, Some, None, refl, arith}
-use Rattle.std.specs.List.{All, sum_by, count_by, repeat, list_all, enumerate_from}
+use Rattle.std.proofs.Common.{◌≡◌, ℕ, cond, zero, suc, ◌+◌, ◌^◌, ◌≤◌, ◌==◌, Bool, true, false, not, ◌&&◌, List, [], ◌∷◌, length, Option, Some, None, refl, arith}
+use Rattle.std.specs.List.{All, sum_by, repeat}
 use Rattle.std.specs.Option.{is_none}
 use Rattle.std.proofs.lemmas.Bool.Decides.{nat_tests}
 use Rattle.std.proofs.lemmas.List.Elements.{All-nil, All-append}
 use Rattle.std.proofs.lemmas.List.Sums.{sum_by-cons}
 use Rattle.std.proofs.lemmas.List.Recursion.{is_count_by}
-use Rattle.std.proofs.lemmas.List.Folds.{list_all_at}
 use Rattle.clk_machine.specs.Plan.{Plan, CpuPlan, count_of, cpu_count, all_words, threads_of}
 use Rattle.clk_machine.specs.Limits.{IsInRange, IsCpu, is_update, IsWithinLimits}
 use Rattle.clk_machine.specs.Tickets.{tickets_of}
 use Rattle.clk_machine.specs.declared.script.Word.{Word}
-use Rattle.clk_tool.specs.Built.{words_of, is_built_word, is_built}
+use Rattle.clk_tool.specs.Built.{words_of, is_built}
 use Rattle.clk_tool.specs.Making.{updates_in}
-
--- there is a CPU
-pub some_cpu : (m : Plan) → IsWithinLimits m → 0 < cpu_count m
-some_cpu m l = let low = l.ranges.cpus.1 in let each = l.ranges.cpu_each in rw each at low
-
-some_first : (cpus : List CpuPlan) (others : List (ℕ × List Word)) → 0 < length cpus
-    → 0 < length (map (λ c. (c.0, all_words c.1.script)) (enumerate_from 0 cpus) ++ others)
-some_first [] others h = absurd (omega (arith, h))
-some_first (c ∷ cpus) others h = omega arith
-
-pub some_thread : (m : Plan) → IsWithinLimits m → 0 < length (threads_of m)
-some_thread m l = some_first m.cpu (map (λ r. (count_of r.cpu, all_words r.script)) m.reader) (some_cpu m l)
 
 All-repeat : {A : Type 0} (P : A → Type 0) (n : ℕ) (xs : List A) → All P xs → All P (repeat n xs)
 All-repeat P zero xs all = All-nil P
@@ -56,17 +43,15 @@ pub record IsOneThread (m : Plan) : Type 0 where
   pub cpu : CpuPlan
   pub cpus : m.cpu ≡ cpu ∷ []
   pub readers : m.reader ≡ []
-  pub words : list_all is_built_word (words_of m) ≡ true
   pub bringup : m.bringup ≡ None
   pub watchdog : m.watchdog ≡ None
   pub percpu : m.stable ≡ false
 
 pub one_thread : (m : Plan) → is_built m ≡ true → IsOneThread m
 one_thread m h =
-    let (front, back) = both (cpu_count m == 1 && length m.reader == 0 && list_all is_built_word (words_of m))
+    let (front, back) = both (cpu_count m == 1 && length m.reader == 0)
     (is_none m.bringup && is_none m.watchdog && length m.source == 0 && not m.stable) h in
-    let (two, words) = both (cpu_count m == 1 && length m.reader == 0) (list_all is_built_word (words_of m)) front in
-    let (one, readers) = both (cpu_count m == 1) (length m.reader == 0) two in
+    let (one, readers) = both (cpu_count m == 1) (length m.reader == 0) front in
     let (three, percpu) = both (is_none m.bringup && is_none m.watchdog && length m.source == 0) (not m.stable) back in
     let (nones, sources) = both (is_none m.bringup && is_none m.watchdog) (length m.source == 0) three in
     let (bringup, watchdog) = both (is_none m.bringup) (is_none m.watchdog) nones in
@@ -75,7 +60,6 @@ one_thread m h =
       cpu = c;
       cpus = is;
       readers = no_item m.reader readers;
-      words = words;
       bringup = none_there m.bringup bringup;
       watchdog = none_there m.watchdog watchdog;
       percpu = not_so m.stable percpu;
@@ -115,16 +99,3 @@ updates_few m o l =
     let few = (cpu_in_range m o l).script.updates in
     let same = is_count_by (sum_by updates_in) is_update refl one_more_update (all_words o.cpu.script) in
     rw (words_one m o, same) few
-
-true_unless : (b : Bool) → ¬ (b ≡ false) → b ≡ true
-true_unless true h = refl
-true_unless false h = absurd (h refl)
-
-pub built_at : (m : Plan) → IsOneThread m → (n : ℕ) (w : Word) → n < length (words_of m) → w ≡ get_or (words_of m) n w → is_built_word w ≡ true
-built_at m o n w low is =
-    true_unless (is_built_word w) (λ wrong.
-    let all = list_all_at is_built_word (words_of m) n w low (rw (← is) wrong) in
-    true_not_false (sym o.words ∙ all))
-  where
-    true_not_false : ¬ (true ≡ false)
-    true_not_false e = absurd (cc e)

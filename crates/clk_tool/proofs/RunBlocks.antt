@@ -1,28 +1,28 @@
 -- The tickets of a run: its time seat gains the blocks of its events.
-use Rattle.std.proofs.Common.{◌≡◌, List, [], ◌∷◌, ◌++◌, ap, ◌∙◌, sym, append_assoc, append-nil}
+use Rattle.std.proofs.Common.{◌≡◌, ℕ, List, [], ◌∷◌, ◌++◌, ap, ◌∙◌, sym, append_assoc, append-nil}
 use Rattle.std.specs.List.{flat_map}
 use Rattle.clk_base.specs.declared.block.Block.{Block}
 use Rattle.clk_ticket.specs.Time.{Time}
 use Rattle.clk_machine.specs.Plan.{Plan}
+use Rattle.clk_local.specs.Context.{Known}
 use Rattle.clk_trace.specs.TicketOrder.{one, blocks_of, blocks_of_kind}
 use Rattle.clk_trace.specs.declared.event.Event.{Event}
 use Rattle.clk_trace.specs.declared.event.EventKind.{EventKind}
 use Rattle.clk_trace.specs.declared.event.EventKind.TheVariants.{Local, Stamp, Update, Pause}
 use Rattle.clk_tool.specs.Running.{Shows, Runs}
-use Rattle.clk_tool.specs.declared.clock.Clock.{Clock}
 
 -- one event
-shows_blocks : (m : Plan) (v : Clock) (k : EventKind) (w : Clock) → Shows m v k w → w.time.blocks ≡ v.time.blocks ++ blocks_of_kind k
-shows_blocks m v (Local raw tick_raw tick_gtod offset old new) w h = ap (λ (t : Time). t.blocks) h.read.draws.is
-shows_blocks m v (Stamp gtod_ticket gtod raw) w h =
-    ap (λ (t : Time). t.blocks) h.read.draws.is ∙ ap (λ (t : Time). t.blocks ++ one raw.ticket ∷ []) h.draws.is
+shows_blocks : (m : Plan) (call : ℕ) (v : Known) (k : EventKind) (w : Known) → Shows m call v k w → w.time.blocks ≡ v.time.blocks ++ blocks_of_kind k
+shows_blocks m call v (Local raw tick_raw tick_gtod offset old new) w h = ap (λ (t : Time). t.blocks) h.raised.reads.draws.is
+shows_blocks m call v (Stamp gtod_ticket gtod raw) w h =
+    ap (λ (t : Time). t.blocks) h.reads.draws.is ∙ ap (λ (t : Time). t.blocks ++ one raw.ticket ∷ []) h.draws.is
     ∙ append_assoc v.time.blocks (one gtod_ticket ∷ []) (one raw.ticket ∷ [])
-shows_blocks m v (Update p) w h = ap (λ (t : Time). t.blocks) h.draws.is
-shows_blocks m v (Pause ticket count) w h = ap (λ (t : Time). t.blocks) h.draws.is
+shows_blocks m call v (Update p) w h = ap (λ (t : Time). t.blocks) h.draws.is
+shows_blocks m call v (Pause ticket count) w h = ap (λ (t : Time). t.blocks) h.draws.is
 
 -- all events of a run
-pub runs_blocks : (m : Plan) (v : Clock) (es : List Event) (w : Clock) → Runs m v es w → w.time.blocks ≡ v.time.blocks ++ flat_map blocks_of es
+pub runs_blocks : (m : Plan) (v : Known) (es : List Event) (w : Known) → Runs m v es w → w.time.blocks ≡ v.time.blocks ++ flat_map blocks_of es
 runs_blocks m v [] w r = rw (← r) (sym (append-nil v.time.blocks))
 runs_blocks m v (e ∷ es) w r =
-    runs_blocks m r.0 es w r.2 ∙ ap (λ (bs : List Block). bs ++ flat_map blocks_of es) (shows_blocks m v e.kind r.0 r.1)
+    runs_blocks m r.0 es w r.2 ∙ ap (λ (bs : List Block). bs ++ flat_map blocks_of es) (shows_blocks m e.call v e.kind r.0 r.1)
     ∙ append_assoc v.time.blocks (blocks_of e) (flat_map blocks_of es)

@@ -1,46 +1,21 @@
--- The steps of a run are a chain, and they stand in the order of a history.
-use Rattle.std.proofs.Common.{◌≡◌, ℕ, zero, suc, ◌+◌, ◌<◌, ◌≤◌, ◌≤ℤ◌, ℤ, ap, false, List, [], ◌∷◌, ◌++◌, map, refl, sym, ◌∙◌, arith, inl, inr, ◌⊎◌}
+-- The lines of a run stand in the order of a history, and no reading falls below what its thread had seen.
+use Rattle.std.proofs.Common.{◌≡◌, ℕ, zero, suc, ◌+◌, ◌<◌, ◌≤◌, ◌≤ℤ◌, ℤ, false, List, [], ◌∷◌, ◌++◌, map, refl, sym, ◌∙◌, subst, arith, append-nil}
 use Rattle.std.proofs.lemmas.Int.{ints, clamps}
 use Rattle.std.proofs.lemmas.Bool.Decides.{nat_tests}
-use Rattle.std.proofs.lemmas.List.{map-append}
+use Rattle.std.proofs.lemmas.Grind.{flat_map-append}
+use Rattle.std.proofs.lemmas.List.Sums.{fold-append}
+use Rattle.std.specs.Int.{int_max}
 use Rattle.std.specs.Ordering.{is_lt}
 use Rattle.std.specs.List.Sorted.{IsSorted}
-use Rattle.clk_machine.specs.Plan.{Plan}
 use Rattle.clk_machine.specs.declared.script.Word.{Word}
 use Rattle.clk_trace.specs.ScriptEvents.{events_at, AreEventsOf}
-use Rattle.clk_trace.specs.WordHistory.{Step, steps_of_kind, steps_from, history_cmp}
+use Rattle.clk_trace.specs.WordHistory.{steps_of_kind, steps_from, history_cmp}
 use Rattle.clk_trace.specs.LegalHistory.{IsChain}
+use Rattle.clk_trace.specs.SeenBefore.{shown_of_kind, greatest, seen_in, NeverFalls}
 use Rattle.clk_trace.specs.declared.event.Event.{Event}
 use Rattle.clk_trace.specs.declared.event.EventKind.{EventKind}
 use Rattle.clk_trace.specs.declared.event.EventKind.TheVariants.{Local, Stamp, Update, Pause}
 use Rattle.clk_trace.specs.declared.trace.HistoryStep.{HistoryStep}
-use Rattle.clk_tool.specs.Running.{Shows, Runs}
-use Rattle.clk_tool.specs.declared.clock.Clock.{Clock}
-
--- the word that an event leaves
-abbrev pub left_by : ℤ → EventKind → ℤ
-left_by word (Local raw tick_raw tick_gtod offset old new) = new
-left_by word _ = word
-
-pub word_after : (m : Plan) (v : Clock) (k : EventKind) (w : Clock) → Shows m v k w → w.word ≡ left_by v.word k
-word_after m v (Local raw tick_raw tick_gtod offset old new) w h = ap (λ (c : Clock). c.word) h.after
-word_after m v (Stamp gtod_ticket gtod raw) w h = ap (λ (c : Clock). c.word) h.after
-word_after m v (Update p) w h = ap (λ (c : Clock). c.word) h.after
-word_after m v (Pause ticket count) w h = ap (λ (c : Clock). c.word) h.after
-
--- a reading's step comes before a chain from the word that it leaves; other events leave the word
-pub shows_chain : (m : Plan) (v : Clock) (k : EventKind) (w : Clock) (call part : ℕ) (rest : List Step) → Shows m v k w
-    → IsChain m.tick w.word rest → IsChain m.tick v.word (steps_of_kind 0 call part k ++ rest)
-shows_chain m v (Local raw tick_raw tick_gtod offset old new) w call part rest h later =
-    (h.old_is, rw (h.names_raw, h.names_gtod, h.names_offset) h.new_is, rw (word_after m v (Local raw tick_raw tick_gtod offset old new) w h) at later)
-shows_chain m v (Stamp gtod_ticket gtod raw) w call part rest h later = rw (word_after m v (Stamp gtod_ticket gtod raw) w h) at later
-shows_chain m v (Update p) w call part rest h later = rw (word_after m v (Update p) w h) at later
-shows_chain m v (Pause ticket count) w call part rest h later = rw (word_after m v (Pause ticket count) w h) at later
-
-pub runs_chain : (m : Plan) (v : Clock) (es : List Event) (w : Clock) (part : ℕ) → Runs m v es w → IsChain m.tick v.word (steps_from 0 part es)
-runs_chain m v [] w part r = tt
-runs_chain m v (e ∷ es) w part r =
-    shows_chain m v e.kind r.0 e.call part (steps_from 0 (part + 1) es) r.1 (runs_chain m r.0 es w (part + 1) r.2)
 
 -- calls do not fall along these events, and none is below c
 abbrev pub CallsRise : ℕ → List Event → Type 0
@@ -71,45 +46,71 @@ sorted_cons x y rest first later zero d low high = first
 sorted_cons x y rest first later (suc k) d low high =
     let e : suc k + 1 ≡ suc (k + 1) = omega arith in rw e (later k d (omega arith) (omega arith))
 
--- the line of a reading starts at the word that stood and does not lower it
-abbrev LineOf : Clock → Clock → ℕ → ℕ → HistoryStep → Type 0
-LineOf v w call part y = (y.old ≡ v.word) × (y.old ≤ℤ y.new) × (y.new ≡ w.word) × (y.thread ≡ 0) × (y.call ≡ call) × (y.part ≡ part)
+-- the lines of these events after a line that left the word where they begin
+abbrev SortedAfter : ℤ → ℕ → ℕ → List Event → Type 0
+SortedAfter tick call part es =
+    (x : HistoryStep) (word : ℤ) → IsChain tick word (steps_from 0 part es) → x.new ≡ word → x.thread ≡ 0 → x.call ≤ call → x.part < part
+    → IsSorted history_cmp (x ∷ map (λ s. s.line) (steps_from 0 part es))
 
--- an event makes no line, or its own
-shows_lines : (m : Plan) (v : Clock) (k : EventKind) (w : Clock) (call part : ℕ) → Shows m v k w
-    → ((map (λ s. s.line) (steps_of_kind 0 call part k) ≡ []) × (w.word ≡ v.word))
-    ⊎ ((y : HistoryStep) × (map (λ s. s.line) (steps_of_kind 0 call part k) ≡ y ∷ []) × LineOf v w call part y)
-shows_lines m v (Local raw tick_raw tick_gtod offset old new) w call part h =
-    let up : old ≤ℤ new = rw (h.new_is, h.old_is) (omega (arith, ints, clamps)) in
-    inr (
-      record { thread = 0; call = call; part = part; old = old; new = new },
-      refl,
-      (h.old_is, up, sym (word_after m v (Local raw tick_raw tick_gtod offset old new) w h), refl, refl, refl),
-    )
-shows_lines m v (Stamp gtod_ticket gtod raw) w call part h = inl (refl, word_after m v (Stamp gtod_ticket gtod raw) w h)
-shows_lines m v (Update p) w call part h = inl (refl, word_after m v (Update p) w h)
-shows_lines m v (Pause ticket count) w call part h = inl (refl, word_after m v (Pause ticket count) w h)
+sorted_each : (tick : ℤ) (call last part : ℕ) (k : EventKind) (es : List Event) → last ≤ call → SortedAfter tick call (part + 1) es
+    → (x : HistoryStep) (word : ℤ) → IsChain tick word (steps_of_kind 0 call part k ++ steps_from 0 (part + 1) es) → x.new ≡ word → x.thread ≡ 0 → x.call ≤ last → x.part < part
+    → IsSorted history_cmp (x ∷ map (λ s. s.line) (steps_of_kind 0 call part k ++ steps_from 0 (part + 1) es))
+sorted_each tick call last part (Local raw tick_raw tick_gtod offset old new) es order later x word chain joined thread early place =
+    let y : HistoryStep = record { thread = 0; call = call; part = part; old = old; new = new } in
+    let found = chain.0 in
+    let made = chain.1 in
+    let up : old ≤ℤ new = rw (made, found) (omega (arith, ints, clamps)) in
+    sorted_cons x y (map (λ s. s.line) (steps_from 0 (part + 1) es)) (not_before x y (joined ∙ sym found) up thread (omega (arith, early, order)) place)
+    (later y new chain.2 refl refl (omega arith) (omega arith))
+sorted_each tick call last part (Stamp gtod_ticket gtod raw) es order later x word chain joined thread early place =
+    later x word chain joined thread (omega (arith, early, order)) (omega (arith, place))
+sorted_each tick call last part (Update p) es order later x word chain joined thread early place =
+    later x word chain joined thread (omega (arith, early, order)) (omega (arith, place))
+sorted_each tick call last part (Pause ticket count) es order later x word chain joined thread early place =
+    later x word chain joined thread (omega (arith, early, order)) (omega (arith, place))
 
--- the lines of a run after a line that left the word where the run begins
-sorted_after : (m : Plan) (x : HistoryStep) (v : Clock) (es : List Event) (w : Clock) (call part : ℕ) → Runs m v es w → CallsRise call es
-    → x.new ≡ v.word → x.thread ≡ 0 → x.call ≤ call → x.part < part → IsSorted history_cmp (x ∷ map (λ s. s.line) (steps_from 0 part es))
-sorted_after m x v [] w call part r calls joined thread early place = sorted_one x
-sorted_after m x v (e ∷ es) w call part r calls joined thread early place =
-    rw (map-append (λ (s : Step). s.line)) (elim (shows_lines m v e.kind r.0 e.call part r.1) [
-      | inl none ↦
-          rw none.0 (sorted_after m x r.0 es w e.call (part + 1) r.2 calls.1 (rw (none.1) joined) thread (omega arith) (omega arith))
-      | inr some ↦
-          rw some.1 (sorted_cons x some.0 (map (λ s. s.line) (steps_from 0 (part + 1) es))
-          (not_before x some.0 (joined ∙ sym some.2.0) some.2.1 (thread ∙ sym some.2.3) (rw some.2.4 (omega arith)) (rw some.2.5 place))
-          (sorted_after m some.0 r.0 es w e.call (part + 1) r.2 calls.1 some.2.2 some.2.3 (rw some.2.4 (omega arith)) (rw some.2.5 (omega arith))))
-    ])
+sorted_after : (tick : ℤ) (call part : ℕ) (es : List Event) → CallsRise call es → SortedAfter tick call part es
+sorted_after tick call part [] calls = λ x word chain joined thread early place. sorted_one x
+sorted_after tick call part (e ∷ es) calls = sorted_each tick e.call call part e.kind es calls.0 (sorted_after tick e.call (part + 1) es calls.1)
 
-pub runs_sorted : (m : Plan) (v : Clock) (es : List Event) (w : Clock) (call part : ℕ) → Runs m v es w → CallsRise call es
+first_each : (tick word : ℤ) (call part : ℕ) (k : EventKind) (es : List Event) → IsChain tick word (steps_of_kind 0 call part k ++ steps_from 0 (part + 1) es)
+    → SortedAfter tick call (part + 1) es → ((x : ℤ) → IsChain tick x (steps_from 0 (part + 1) es) → IsSorted history_cmp (map (λ s. s.line) (steps_from 0 (part + 1) es)))
+    → IsSorted history_cmp (map (λ s. s.line) (steps_of_kind 0 call part k ++ steps_from 0 (part + 1) es))
+first_each tick word call part (Local raw tick_raw tick_gtod offset old new) es chain after later =
+    after (record { thread = 0; call = call; part = part; old = old; new = new }) new chain.2 refl refl (omega arith) (omega arith)
+first_each tick word call part (Stamp gtod_ticket gtod raw) es chain after later = later word chain
+first_each tick word call part (Update p) es chain after later = later word chain
+first_each tick word call part (Pause ticket count) es chain after later = later word chain
+
+pub lines_sorted : (tick word : ℤ) (call part : ℕ) (es : List Event) → IsChain tick word (steps_from 0 part es) → CallsRise call es
     → IsSorted history_cmp (map (λ s. s.line) (steps_from 0 part es))
-runs_sorted m v [] w call part r calls = λ k d low high. absurd (omega arith)
-runs_sorted m v (e ∷ es) w call part r calls =
-    rw (map-append (λ (s : Step). s.line)) (elim (shows_lines m v e.kind r.0 e.call part r.1) [
-      | inl none ↦ rw none.0 (runs_sorted m r.0 es w e.call (part + 1) r.2 calls.1)
-      | inr some ↦
-          rw some.1 (sorted_after m some.0 r.0 es w e.call (part + 1) r.2 calls.1 some.2.2 some.2.3 (rw some.2.4 (omega arith)) (rw some.2.5 (omega arith)))
-    ])
+lines_sorted tick word call part [] chain calls = λ k d low high. absurd (omega arith)
+lines_sorted tick word call part (e ∷ es) chain calls =
+    first_each tick word e.call part e.kind es chain (sorted_after tick e.call (part + 1) es calls.1) (λ x later. lines_sorted tick x e.call (part + 1) es later calls.1)
+
+-- ---- what a thread has seen
+
+seen_after : (opening : ℤ) (before : List Event) (e : Event) → seen_in opening 0 0 (before ++ e ∷ []) ≡ greatest (seen_in opening 0 0 before) (shown_of_kind 0 0 e.kind)
+seen_after opening before e =
+    rw (flat_map-append (λ e. shown_of_kind 0 0 e.kind) before (e ∷ []), append-nil, fold-append int_max opening)
+
+-- what was seen of the word is not above it, and so an event that finds it does not fall
+falls_each : (tick opening word : ℤ) (before : List Event) (call part : ℕ) (k : EventKind) (es : List Event) → seen_in opening 0 0 before ≤ℤ word
+    → IsChain tick word (steps_of_kind 0 call part k ++ steps_from 0 (part + 1) es)
+    → ((x : ℤ) → greatest (seen_in opening 0 0 before) (shown_of_kind 0 0 k) ≤ℤ x → IsChain tick x (steps_from 0 (part + 1) es) → NeverFalls opening 0 (before ++ (record { call = call; kind = k }) ∷ []) es)
+    → NeverFalls opening 0 before ((record { call = call; kind = k }) ∷ es)
+falls_each tick opening word before call part (Local raw tick_raw tick_gtod offset old new) es low chain later =
+    let found = chain.0 in
+    let made = chain.1 in
+    let up : word ≤ℤ new = rw made (omega (arith, ints, clamps)) in
+    (subst (λ y. seen_in opening 0 0 before ≤ℤ y) (sym found) low, later new (omega (arith, ints, clamps, low, up)) chain.2)
+falls_each tick opening word before call part (Stamp gtod_ticket gtod raw) es low chain later = (tt, later word low chain)
+falls_each tick opening word before call part (Update p) es low chain later = (tt, later word low chain)
+falls_each tick opening word before call part (Pause ticket count) es low chain later = (tt, later word low chain)
+
+pub never_fall : (tick opening word : ℤ) (before : List Event) (part : ℕ) (es : List Event) → seen_in opening 0 0 before ≤ℤ word
+    → IsChain tick word (steps_from 0 part es) → NeverFalls opening 0 before es
+never_fall tick opening word before part [] low chain = tt
+never_fall tick opening word before part (e ∷ es) low chain =
+    falls_each tick opening word before e.call part e.kind es low chain
+    (λ x seen later. never_fall tick opening x (before ++ e ∷ []) (part + 1) es (rw (seen_after opening before e) seen) later)

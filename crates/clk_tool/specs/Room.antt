@@ -8,5 +8,5 @@ pub record HasRoom (words : ℕ) (l : Lists) : Type 0 where
   pub cpu_of : (l.cpu_of.items ≡ []) × (1 ≤ l.cpu_of.room)
   pub threads : (l.threads.items ≡ []) × (1 ≤ l.threads.room)
   pub histories : (l.histories.items ≡ []) × (1 ≤ l.histories.room)
-  pub events : (l.events.items ≡ []) × (2 * words ≤ l.events.room)
-  pub history : (l.history.items ≡ []) × (words ≤ l.history.room)
+  pub events : (l.events.items ≡ []) × (3 * words ≤ l.events.room)
+  pub history : (l.history.items ≡ []) × (2 * words ≤ l.history.room)

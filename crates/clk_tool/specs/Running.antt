@@ -1,80 +1,85 @@
--- How the clock of one CPU goes from event to event, on its thread's seats.
-use Rattle.std.specs.Prelude.{◌≡◌, ℕ, true, ℤ, pos, ◌+ℤ◌, List, [], ◌∷◌}
+-- How the thread of a CPU goes from event to event, by what its seats have.
+use Rattle.std.specs.Prelude.{◌≡◌, ℕ, true, ℤ, pos, List, [], ◌∷◌}
 use Rattle.clk_base.specs.Blocks.{Rises}
-use Rattle.clk_num.specs.Range.{IsNear}
-use Rattle.clk_num.specs.Clamp.{raise, local_target, elapsed}
 use Rattle.clk_ticket.specs.Time.{Time, Draws, share_of}
+use Rattle.clk_words.specs.declared.step.Step.{Step}
+use Rattle.clk_words.specs.declared.step.Why.{Why}
+use Rattle.clk_words.specs.declared.step.Why.TheVariants.{Raise}
 use Rattle.clk_machine.specs.Plan.{Plan}
-use Rattle.clk_machine.specs.Limits.{IsWithinLimits}
-use Rattle.clk_machine.specs.Time.{gtod_at}
 use Rattle.clk_machine.specs.Records.{AreRecords}
 use Rattle.clk_machine.specs.declared.reading.RawReading.{RawReading}
 use Rattle.clk_machine.specs.declared.reading.Published.{Published}
-use Rattle.clk_latch.specs.Calls.{AreDrawn, DrawsTicket, Reads, Updates}
+use Rattle.clk_latch.specs.Epoch.{Epoch}
+use Rattle.clk_latch.specs.Calls.{AreDrawn, DrawsTicket, Updates}
+use Rattle.clk_local.specs.Context.{Site, Known}
+use Rattle.clk_local.specs.Shows.{ShowsRaised, ShowsStamp}
+use Rattle.clk_local.specs.declared.events.Reading.{Reading}
+use Rattle.clk_local.specs.declared.events.Reading.TheVariants.{Stable, PerCpu}
+use Rattle.clk_local.specs.declared.events.TickEvent.{TickEvent}
+use Rattle.clk_local.specs.declared.events.TickEvent.TheVariants.{Nothing, Ticked}
 use Rattle.clk_trace.specs.declared.event.Event.{Event}
 use Rattle.clk_trace.specs.declared.event.EventKind.{EventKind}
 use Rattle.clk_trace.specs.declared.event.EventKind.TheVariants.{Local, Stamp, Update, Pause}
-use Rattle.clk_tool.specs.declared.clock.Clock.{Clock}
-use Rattle.clk_tool.specs.declared.shared.Shared.{Shared}
 
--- the seats belong to the run's tables, and the values are so near to 0 that no sum of a reading leaves its type
-pub record IsReady (s : Shared) (v : Clock) : Type 0 where
-  pub limits : IsWithinLimits s.machine
-  -- the latch's owner, who has the records of CPU 0
-  pub latch : v.latch.latch ≡ s.latch
-  pub owner : v.latch.epoch.owner ≡ true
-  pub records : AreRecords s.machine 0 (pos 0) v.latch.epoch.records
-  pub drawn : AreDrawn v.time.blocks v.latch.epoch.records
-  -- all tickets of the table, drawn or left
-  pub table : v.time.table ≡ s.tickets.table
-  pub share : share_of v.time ≡ s.tickets.total
-  pub rises : Rises v.time.blocks
-  pub tick_raw : IsNear 59 v.tick_raw
-  pub tick_gtod : IsNear 42 v.tick_gtod
-  pub offset : IsNear 60 v.offset
-  pub word : IsNear 61 v.word
+-- where the thread of CPU 0 makes a call
+abbrev pub site : Plan → ℕ → Site
+site m call = record { machine = m; cpu = 0; adjust = pos 0; call = call }
 
--- a raw reading is what the latch's read answered, at the ticket that it drew
-pub record ReadsRaw (m : Plan) (v : Clock) (raw : RawReading) (w : Clock) : Type 0 where
-  pub reads : Reads m 0 (pos 0) v.latch.epoch w.latch.epoch raw
-  pub draws : DrawsTicket v.time raw.ticket w.time
+-- the seats are the owner's of the latch, with the records of CPU 0, and one that has all tickets of the run, drawn or left
+pub record IsSound (m : Plan) (total : ℕ) (epoch : Epoch) (time : Time) : Type 0 where
+  pub owner : epoch.owner ≡ true
+  pub records : AreRecords m 0 (pos 0) epoch.records
+  pub drawn : AreDrawn time.blocks epoch.records
+  pub share : share_of time ≡ total
+  pub rises : Rises time.blocks
 
--- a local reading makes one and raises the word
-pub record ShowsLocal (m : Plan) (v : Clock) (raw : RawReading) (tick_raw tick_gtod offset old new : ℤ) (w : Clock) : Type 0 where
-  pub read : ReadsRaw m v raw w
-  pub names_raw : tick_raw ≡ v.tick_raw
-  pub names_gtod : tick_gtod ≡ v.tick_gtod
-  pub names_offset : offset ≡ v.offset
-  pub old_is : old ≡ v.word
-  pub new_is : new ≡ raise v.word (local_target (v.tick_gtod +ℤ v.offset) (elapsed raw.ns v.tick_raw) m.tick)
-  pub after : w ≡ record v { latch = w.latch; time = w.time; word = new }
+-- ---- events
 
--- a stamp draws the ticket of its monotonic time, then makes a raw reading, and its pair stands from then on
-pub record ShowsStamp (m : Plan) (v : Clock) (gtod_ticket : ℕ) (gtod : ℤ) (raw : RawReading) (w : Clock) : Type 0 where
-  pub time : Time
-  pub draws : DrawsTicket v.time gtod_ticket time
-  pub gtod_is : gtod ≡ gtod_at m gtod_ticket
-  pub read : ReadsRaw m (record v { time = time }) raw w
-  pub after : w ≡ record v { latch = w.latch; time = w.time; tick_raw = raw.ns; tick_gtod = gtod }
+-- the event of a reading that made a step
+abbrev pub kinds_of_why : RawReading → Why → ℤ → ℤ → List EventKind
+kinds_of_why raw (Raise shown tick_raw tick_gtod offset) old new = Local raw tick_raw tick_gtod offset old new ∷ []
+kinds_of_why raw _ old new = []
+
+abbrev pub kinds_of_step : RawReading → Step → List EventKind
+kinds_of_step raw step = kinds_of_why raw step.why step.old step.new
+
+abbrev pub kinds_of_reading : Reading → List EventKind
+kinds_of_reading (Stable raw value) = []
+kinds_of_reading (PerCpu raw step) = kinds_of_step raw step
+
+-- those of a tick
+abbrev pub kinds_of_tick : TickEvent → List EventKind
+kinds_of_tick Nothing = []
+kinds_of_tick (Ticked gtod_ticket gtod stamp raw step) = Stamp gtod_ticket gtod stamp ∷ kinds_of_step raw step
+
+-- a local reading is a step of the thread on its clock word
+pub record ShowsLocal (z : Site) (v : Known) (raw : RawReading) (tick_raw tick_gtod offset old new : ℤ) (w : Known) : Type 0 where
+  pub step : Step
+  pub raised : ShowsRaised z v raw step w
+  pub why_is : step.why ≡ Raise raw.ns tick_raw tick_gtod offset
+  pub old_is : step.old ≡ old
+  pub new_is : step.new ≡ new
 
 -- an update is what the latch's update answered
-pub record ShowsUpdate (m : Plan) (v : Clock) (p : Published) (w : Clock) : Type 0 where
-  pub updates : Updates m 0 (pos 0) v.latch.epoch w.latch.epoch p
+pub record ShowsUpdate (m : Plan) (v : Known) (p : Published) (w : Known) : Type 0 where
+  pub updates : Updates m 0 (pos 0) v.epoch w.epoch p
   pub draws : DrawsTicket v.time p.ticket w.time
-  pub after : w ≡ record v { latch = w.latch; time = w.time }
+  pub view_is : w.view ≡ v.view
 
-pub record ShowsPause (v : Clock) (ticket count : ℕ) (w : Clock) : Type 0 where
+-- a pause draws its tickets
+pub record ShowsPause (v : Known) (ticket count : ℕ) (w : Known) : Type 0 where
   pub draws : Draws v.time ticket count w.time
-  pub after : w ≡ record v { time = w.time }
+  pub epoch_is : w.epoch ≡ v.epoch
+  pub view_is : w.view ≡ v.view
 
--- the event took the clock from v to w
-abbrev pub Shows : Plan → Clock → EventKind → Clock → Type 0
-Shows m v (Local raw tick_raw tick_gtod offset old new) w = ShowsLocal m v raw tick_raw tick_gtod offset old new w
-Shows m v (Stamp gtod_ticket gtod raw) w = ShowsStamp m v gtod_ticket gtod raw w
-Shows m v (Update p) w = ShowsUpdate m v p w
-Shows m v (Pause ticket count) w = ShowsPause v ticket count w
+-- the event of this call took the seats from v to w
+abbrev pub Shows : Plan → ℕ → Known → EventKind → Known → Type 0
+Shows m call v (Local raw tick_raw tick_gtod offset old new) w = ShowsLocal (site m call) v raw tick_raw tick_gtod offset old new w
+Shows m call v (Stamp gtod_ticket gtod raw) w = ShowsStamp (site m call) v gtod_ticket gtod raw w
+Shows m call v (Update p) w = ShowsUpdate m v p w
+Shows m call v (Pause ticket count) w = ShowsPause v ticket count w
 
--- these events, one after another, took it from v to w
-abbrev pub Runs : Plan → Clock → List Event → Clock → Type 0
+-- these events, one after another, took them from v to w
+abbrev pub Runs : Plan → Known → List Event → Known → Type 0
 Runs m v [] w = v ≡ w
-Runs m v (e ∷ es) w = (u : Clock) × Shows m v e.kind u × Runs m u es w
+Runs m v (e ∷ es) w = (u : Known) × Shows m e.call v e.kind u × Runs m u es w

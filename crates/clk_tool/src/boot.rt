@@ -2,14 +2,15 @@ ghost use Rattle.std.specs.Prelude.{◌≡◌, ◌^◌, IfOk};
 ghost use Rattle.clk_machine.specs.Limits.{IsWithinLimits};
 ghost use Rattle.clk_machine.specs.Records.{record_zero};
 ghost use Rattle.clk_ticket.specs.Time.{fresh};
-ghost use Rattle.clk_tool.specs.Booting.{HasEpoch, MayOpen, IsOpened, IsBooted};
+ghost use Rattle.clk_latch.specs.Epoch.{owner_of};
+ghost use Rattle.clk_tool.specs.Booting.{HasEpoch, HasStamped, IsBooted};
 
-use crate::clock::Clock;
 use crate::shared::Shared;
-use clk_latch::{Latch, LatchSeat};
-use clk_machine::{Machine, Published};
+use clk_latch::{Epochs, Latch, LatchSeat};
+use clk_machine::{CpuCounter, Machine, Published};
 use clk_ticket::{TicketTable, TimeSeat};
 use clk_trace::StableStamp;
+use clk_words::{Mode, Opening, Seat, SeatKind, Words};
 use std::alloc::{AllocError, Global};
 
 // The most that a machine may need.
@@ -17,16 +18,26 @@ const TICKETS: u64 = 1 << 24;
 
 const UPDATES: u32 = 1024;
 
-/// What the boot of a machine leaves: what its thread uses, record 0, the stamp of CPU 0, and the clock that opens by it.
+/// What the boot of a machine leaves: what its thread uses, record 0, the stamp of CPU 0 by which the clock words opened,
+/// the words' first seat, and the seats of CPU 0's thread.
 #[derive(Drop)]
 pub struct Boot {
     pub shared: Shared,
     pub epoch: Published,
     pub stamp: StableStamp,
-    pub clock: Clock,
+    pub first: Seat,
+    pub seats: Seats,
 }
 
-/// Reads the epoch, and then stamps once: the clock is per-CPU from the start, and its word opens at the stamp. The error
+/// The seats of a CPU's thread: the owner's at the clock words and at the latch, and the one that draws its tickets.
+#[derive(Drop)]
+pub struct Seats {
+    pub owner: Seat,
+    pub latch: LatchSeat,
+    pub time: TimeSeat,
+}
+
+/// Reads the epoch, and then stamps once: the clock is per-CPU from the start, and its words open at the stamp. The error
 /// is want of memory.
 pub fn boot_machine(alloc: Global, machine: Machine) -> Result<Boot, AllocError>
     requires { IsWithinLimits machine }
@@ -34,18 +45,33 @@ pub fn boot_machine(alloc: Global, machine: Machine) -> Result<Boot, AllocError>
 {
     let (tickets, mut time) = TicketTable::new(alloc, TICKETS)?;
     let epoch = read_epoch(&machine, &tickets, &mut time);
-    let (latch, seat) = Latch::new(alloc, epoch, UPDATES)?;
+    let (latch, mut latch_seat) = Latch::new(alloc, epoch, UPDATES)?;
+    let stamp = first_stamp(&machine, &tickets, &mut time, &latch, &mut latch_seat);
+    let opening = Opening {
+        mode: Mode::PerCpu,
+        offset: stamp.offset,
+        tick_gtod: stamp.gtod,
+        tick_raw: stamp.raw.ns,
+    };
+    let (words, mut first) = Words::new(alloc, 1, machine.tick(), opening)?;
+    let owner = words.split(&mut first, SeatKind::Owner(0));
     let shared = Shared {
         machine,
         tickets,
         latch,
+        words,
     };
-    let (clock, stamp) = open_clock(&shared, seat, time);
+    let seats = Seats {
+        owner,
+        latch: latch_seat,
+        time,
+    };
     Ok(Boot {
         shared,
         epoch,
         stamp,
-        clock,
+        first,
+        seats,
     })
 }
 
@@ -65,32 +91,33 @@ fn read_epoch(machine: &Machine, tickets: &TicketTable, time: &mut TimeSeat) -> 
     }
 }
 
-/// The stamp of the boot, and the clock that opens by it.
-fn open_clock(shared: &Shared, latch: LatchSeat, time: TimeSeat) -> (Clock, StableStamp)
-    requires { MayOpen shared.now latch time }
-    ensures { IsOpened shared.now result.0 result.1 }
+/// The stamp of the boot, by record 0.
+fn first_stamp(
+    machine: &Machine,
+    tickets: &TicketTable,
+    time: &mut TimeSeat,
+    latch: &Latch,
+    seat: &mut LatchSeat,
+) -> StableStamp
+    requires limits { IsWithinLimits machine.now }
+    requires epoch { HasEpoch tickets.now time.old }
+    requires own { seat.old.latch ≡ latch.now }
+    requires seat { seat.old.epoch ≡ owner_of (record_zero machine.now) 1024 }
+    ensures own { seat.new.latch ≡ latch.now }
+    ensures stamped { HasStamped machine.now tickets.now time.new seat.new.epoch result }
 {
-    let mut clock = Clock {
-        latch,
-        time,
-        word: 0,
-        tick_raw: 0,
-        tick_gtod: 0,
-        offset: 0,
+    let gtod_ticket = tickets.draw(time, 1);
+    let gtod = machine.gtod(gtod_ticket);
+    let counter = CpuCounter {
+        machine,
+        cpu: 0,
+        adjust: 0,
     };
-    let gtod_ticket = clock.draw(shared, 1);
-    let gtod = shared.machine.gtod(gtod_ticket);
-    let raw = clock.raw(shared);
-    let offset = raw.ns - gtod;
-    clock.tick_raw = raw.ns;
-    clock.tick_gtod = gtod;
-    clock.offset = offset;
-    clock.word = gtod + offset;
-    let stamp = StableStamp {
+    let raw = latch.read(seat, tickets, time, counter);
+    StableStamp {
         gtod_ticket,
         gtod,
         raw,
-        offset,
-    };
-    (clock, stamp)
+        offset: raw.ns - gtod,
+    }
 }

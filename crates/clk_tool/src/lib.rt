@@ -17,7 +17,6 @@
 
 mod boot;
 mod built;
-mod clock;
 mod command;
 #[cfg(test)]
 mod end_tests;

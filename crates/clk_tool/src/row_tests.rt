@@ -63,6 +63,10 @@ fn traces_are_those_of_the_worked_runs(rt: HostRuntime) -> Result<(), Fail> {
             "\"update\", \"update\", \"local\"",
             "0 update 1 3 30 30\n1 update 2 4 40 40\n2 local 5 50 2 50 20 10 10 20 50\nhistory 0 1\n0 2 20 50\nend 6\n",
         ),
+        (
+            "\"idle\"",
+            "0 local 3 30 0 30 20 10 10 20 30\n0 stamp 4 40 5 50 0 50\n0 local 6 60 0 60 50 40 10 30 60\nhistory 0 2\n0 0 20 30\n0 0 30 60\nend 7\n",
+        ),
         ("", "history 0 0\nend 3\n"),
     ] {
         let text = file(rt.alloc(), "10", "1000000", script)?;
@@ -130,7 +134,6 @@ fn counters_are_those_of_the_file(rt: HostRuntime) -> Result<(), Fail> {
 fn forms_that_are_not_built_are_refused_last(rt: HostRuntime) -> Result<(), Fail> {
     let head = "version = 1\nstep = 10\nnominal_khz = 1000000\nreference.khz = 1000000\n";
     for form in [
-        "cpus = 1\nstable = false\ncpu = [{ script = [\"local\", \"idle\"] }]",
         "cpus = 2\nstable = false\ncpu = [{}, {}]",
         "cpus = 1\nstable = false\ncpu = [{}]\nreader = [{ cpu = 0 }]",
         "cpus = 1\nstable = false\ncpu = [{}]\nbringup = { adjust = true, timeout_us = 0, turns = 0 }",

@@ -1,126 +1,209 @@
 ghost use Rattle.std.specs.Prelude.{◌≡◌, true, ◌+◌, ◌^◌, ◌<◌, ◌≤◌, pos, length};
 ghost use Rattle.clk_machine.specs.Limits.{IsInRange};
 ghost use Rattle.clk_machine.specs.Tickets.{tickets_of};
-ghost use Rattle.clk_trace.specs.ScriptEvents.{IsLocal, IsStamp, IsUpdate, IsPause};
-ghost use Rattle.clk_tool.specs.Built.{is_built, is_built_word, words_of};
-ghost use Rattle.clk_tool.specs.Running.{IsReady};
-ghost use Rattle.clk_tool.specs.Making.{MakesOne, MakesWord, Spends, updates_in, HasEnough, HasMade};
+ghost use Rattle.clk_tool.specs.Built.{is_built, words_of};
+ghost use Rattle.clk_tool.specs.Running.{kinds_of_step, kinds_of_reading, kinds_of_tick};
+ghost use Rattle.clk_tool.specs.Making.{machine_of, known, IsReady, KeepsEvents, MakesWord, updates_in, HasEnough, HasMade};
 
-use crate::clock::Clock;
-use crate::shared::Shared;
-use clk_machine::{Gate, Word};
+use clk_latch::{Epochs, Latch};
+use clk_local::{Ctx, IdleEvent, Reading, TickEvent, idle, local, tick};
+use clk_machine::{Gate, RawReading, Word};
 use clk_num::List;
 use clk_trace::{Event, EventKind, HistoryStep};
+use clk_words::{Step, Why};
 
-/// The thread of CPU 0: its clock, its events, and the steps of its clock word in their order.
+/// The thread of CPU 0: its seats, its events, and the steps of its clock word in their order.
 #[derive(Drop)]
-pub struct Thread {
-    pub clock: Clock,
+pub struct Thread<'a> {
+    pub ctx: Ctx<'a, Latch>,
     pub events: List<Event>,
     pub history: List<HistoryStep>,
     /// The reading of the last event that shows one, in ns.
     pub last: i64,
 }
 
-impl Thread {
-    /// A local reading, and its step.
-    fn local(&mut self, shared: &Shared, call: u32)
-        requires ready { IsReady shared.now self.old.clock }
-        requires left { 1 ≤ self.old.clock.time.left }
+impl<'a> Thread<'a> {
+    // Keeps the event of a step, and its line.
+    fn keep_step(&mut self, raw: &RawReading, step: &Step)
         requires few { length self.old.events.items < 2 ^ 32 }
         requires room { (1 ≤ self.old.events.room) × (1 ≤ self.old.history.room) }
-        ensures spends { Spends 1 0 self.old.clock self.new.clock }
-        ensures made { MakesOne shared.now IsLocal call self.old self.new }
+        ensures { KeepsEvents self.old.ctx.call (kinds_of_step raw.now step.now) 1 self.old self.new }
     {
-        let old = self.clock.word;
-        let kind = self.clock.local(shared);
-        let new = self.clock.word;
-        self.history.push(HistoryStep {
-            thread: 0,
-            call,
-            part: self.events.len() as u32,
-            old,
-            new,
-        });
-        self.events.push(Event { call, kind });
-        self.last = new;
+        if let Why::Raise {
+            raw: _,
+            tick_raw,
+            tick_gtod,
+            offset,
+        } = step.why
+        {
+            self.history.push(HistoryStep {
+                thread: 0,
+                call: self.ctx.call,
+                part: self.events.len() as u32,
+                old: step.old,
+                new: step.new,
+            });
+            let kind = EventKind::Local {
+                raw: *raw,
+                tick_raw,
+                tick_gtod,
+                offset,
+                old: step.old,
+                new: step.new,
+            };
+            self.events.push(Event {
+                call: self.ctx.call,
+                kind,
+            });
+            self.last = step.new;
+        }
     }
 
-    /// A stamp.
-    fn stamp(&mut self, shared: &Shared, call: u32)
-        requires ready { IsReady shared.now self.old.clock }
-        requires left { 2 ≤ self.old.clock.time.left }
-        requires room { 1 ≤ self.old.events.room }
-        ensures spends { Spends 2 0 self.old.clock self.new.clock }
-        ensures kept { self.new.history ≡ self.old.history }
-        ensures made { MakesOne shared.now IsStamp call self.old self.new }
+    // Keeps the event of a reading.
+    fn keep_reading(&mut self, reading: &Reading)
+        requires few { length self.old.events.items < 2 ^ 32 }
+        requires room { (1 ≤ self.old.events.room) × (1 ≤ self.old.history.room) }
+        ensures { KeepsEvents self.old.ctx.call (kinds_of_reading reading.now) 1 self.old self.new }
     {
-        let kind = self.clock.stamp(shared);
-        self.events.push(Event { call, kind });
+        if let Reading::PerCpu { raw, step } = reading {
+            self.keep_step(raw, step);
+        }
     }
 
-    /// An update of the latch.
-    fn update(&mut self, shared: &Shared, call: u32)
-        requires ready { IsReady shared.now self.old.clock }
-        requires left { 1 ≤ self.old.clock.time.left }
-        requires updates { 1 ≤ self.old.clock.latch.epoch.left }
-        requires room { 1 ≤ self.old.events.room }
-        ensures spends { Spends 1 1 self.old.clock self.new.clock }
-        ensures made { MakesOne shared.now IsUpdate call self.old self.new }
-    {
-        let kind = self.clock.update(shared);
-        self.events.push(Event { call, kind });
-    }
-
-    /// A pause of so many tickets.
-    fn pause(&mut self, shared: &Shared, call: u32, count: u64)
-        requires ready { IsReady shared.now self.old.clock }
-        requires left { (1 ≤ count) × (count ≤ self.old.clock.time.left) }
-        requires room { 1 ≤ self.old.events.room }
-        ensures spends { Spends count 0 self.old.clock self.new.clock }
-        ensures made { MakesOne shared.now (IsPause (pos count)) call self.old self.new }
-    {
-        let kind = self.clock.pause(shared, count);
-        self.events.push(Event { call, kind });
-    }
-
-    /// One word of the script.
-    fn word(&mut self, shared: &Shared, call: u32, word: Word)
-        requires range { IsInRange 1 word }
-        requires built { is_built_word word ≡ true }
-        requires ready { IsReady shared.now self.old.clock }
-        requires left { tickets_of word ≤ self.old.clock.time.left }
-        requires updates { updates_in word ≤ self.old.clock.latch.epoch.left }
-        requires few { length self.old.events.items + 2 ≤ 2 ^ 32 }
+    // Keeps the events of a tick.
+    fn keep_tick(&mut self, event: &TickEvent)
+        requires few { length self.old.events.items + 1 < 2 ^ 32 }
         requires room { (2 ≤ self.old.events.room) × (1 ≤ self.old.history.room) }
-        ensures { MakesWord shared.now word call self.old self.new }
+        ensures { KeepsEvents self.old.ctx.call (kinds_of_tick event.now) 1 self.old self.new }
+    {
+        if let TickEvent::Ticked {
+            gtod_ticket,
+            gtod,
+            stamp,
+            raw,
+            step,
+        } = event
+        {
+            let kind = EventKind::Stamp {
+                gtod_ticket: *gtod_ticket,
+                gtod: *gtod,
+                raw: *stamp,
+            };
+            self.events.push(Event {
+                call: self.ctx.call,
+                kind,
+            });
+            self.keep_step(raw, step);
+        }
+    }
+}
+
+impl<'a> Thread<'a> {
+    // A local reading.
+    fn local(&mut self)
+        requires ready { IsReady self.old }
+        requires left { 1 ≤ self.old.ctx.time.left }
+        requires few { length self.old.events.items < 2 ^ 32 }
+        requires room { (1 ≤ self.old.events.room) × (1 ≤ self.old.history.room) }
+        ensures { MakesWord Word.Local self.old self.new }
+    {
+        let reading = local(&mut self.ctx);
+        self.keep_reading(&reading);
+    }
+
+    // A tick.
+    fn tick(&mut self)
+        requires ready { IsReady self.old }
+        requires left { 3 ≤ self.old.ctx.time.left }
+        requires few { length self.old.events.items + 1 < 2 ^ 32 }
+        requires room { (2 ≤ self.old.events.room) × (1 ≤ self.old.history.room) }
+        ensures { MakesWord Word.Tick self.old self.new }
+    {
+        let event = tick(&mut self.ctx);
+        self.keep_tick(&event);
+    }
+
+    // An idle event: a reading, and a tick.
+    fn idle(&mut self)
+        requires ready { IsReady self.old }
+        requires left { 4 ≤ self.old.ctx.time.left }
+        requires few { length self.old.events.items + 2 < 2 ^ 32 }
+        requires room { (3 ≤ self.old.events.room) × (2 ≤ self.old.history.room) }
+        ensures { MakesWord Word.Idle self.old self.new }
+    {
+        let IdleEvent { read, tick } = idle(&mut self.ctx);
+        self.keep_reading(&read);
+        self.keep_tick(&tick);
+    }
+
+    // An update of the latch.
+    fn update(&mut self)
+        requires ready { IsReady self.old }
+        requires left { 1 ≤ self.old.ctx.time.left }
+        requires updates { 1 ≤ self.old.ctx.latch_seat.epoch.left }
+        requires room { 1 ≤ self.old.events.room }
+        ensures { MakesWord Word.Update self.old self.new }
+    {
+        let ctx = &mut self.ctx;
+        let published = ctx.epochs.update(
+            &mut ctx.latch_seat,
+            ctx.tickets,
+            &mut ctx.time,
+            ctx.counter,
+        );
+        self.events.push(Event {
+            call: self.ctx.call,
+            kind: EventKind::Update(published),
+        });
+    }
+
+    // A pause of so many tickets.
+    fn pause(&mut self, count: u64)
+        requires ready { IsReady self.old }
+        requires left { (1 ≤ count) × (count ≤ self.old.ctx.time.left) }
+        requires room { 1 ≤ self.old.events.room }
+        ensures { MakesWord (Word.Pause (pos count)) self.old self.new }
+    {
+        let ticket = self.ctx.tickets.draw(&mut self.ctx.time, count);
+        self.events.push(Event {
+            call: self.ctx.call,
+            kind: EventKind::Pause { ticket, count },
+        });
+    }
+
+    // One word of the script.
+    fn word(&mut self, word: Word)
+        requires range { IsInRange 1 word }
+        requires ready { IsReady self.old }
+        requires left { tickets_of word ≤ self.old.ctx.time.left }
+        requires updates { updates_in word ≤ self.old.ctx.latch_seat.epoch.left }
+        requires few { length self.old.events.items + 3 ≤ 2 ^ 32 }
+        requires room { (3 ≤ self.old.events.room) × (2 ≤ self.old.history.room) }
+        ensures { MakesWord word self.old self.new }
     {
         match word {
-            Word::Local => self.local(shared, call),
+            Word::Local => self.local(),
             // The CPU that is named is the one that there is.
-            Word::Remote(_) => self.local(shared, call),
-            Word::Tick => {
-                self.stamp(shared, call);
-                self.local(shared, call);
-            }
-            Word::Pause(count) => self.pause(shared, call, count as u64),
-            Word::Update => self.update(shared, call),
-            // This is none of the words that are built.
-            Word::Idle => {}
+            Word::Remote(_) => self.local(),
+            Word::Tick => self.tick(),
+            Word::Idle => self.idle(),
+            Word::Update => self.update(),
+            Word::Pause(count) => self.pause(count as u64),
         }
     }
 
     /// The whole script: each word passes the gate and is then made.
-    pub fn run<G: Gate>(&mut self, shared: &Shared, gate: &G)
-        requires built { is_built shared.now.machine ≡ true }
-        requires enough { HasEnough shared.now.machine self.old.clock }
-        requires start { HasMade shared.now self.old.clock 0 self.old }
-        ensures { HasMade shared.now self.old.clock (length (words_of shared.now.machine)) self.new }
+    pub fn run<G: Gate>(&mut self, gate: &G)
+        requires built { is_built (machine_of self.old) ≡ true }
+        requires enough { HasEnough (machine_of self.old) (known self.old) }
+        requires start { HasMade self.old 0 self.old }
+        ensures { HasMade self.old (length (words_of (machine_of self.old))) self.new }
     {
-        for call in 0..shared.machine.words(0) {
+        for call in 0..self.ctx.counter.machine.words(0) {
             gate.pass(0, call, self.last);
-            let word = shared.machine.word(0, call);
-            self.word(shared, call, word);
+            self.ctx.call = call;
+            let word = self.ctx.counter.machine.word(0, call);
+            self.word(word);
         }
     }
 }

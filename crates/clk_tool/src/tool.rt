@@ -120,7 +120,7 @@ fn trace_into<K: Sink, G: Gate>(alloc: Global, machine: Machine, sink: &mut K, g
     ensures later { K.faults sink.old ≤ K.faults sink.new }
 {
     match run_machine(alloc, machine, gate) {
-        Ok(trace) => match write_trace(sink, &trace) {
+        Ok(finished) => match write_trace(sink, &finished.trace) {
             Ok(()) => Status::Done,
             Err(WriteFault) => Status::WriteFault,
         },

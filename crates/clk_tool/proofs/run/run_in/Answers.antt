@@ -1,44 +1,60 @@
-use Rattle.std.proofs.Common.{refl, rules, arith, FitsSigned, w64, to_z-of_z}
-use Rattle.std.proofs.Math.Seq.{take-length}
-use Rattle.clk_tool.proofs.OneThread.{one_thread, tickets_few, updates_few}
+use Rattle.std.proofs.Common.{refl, rules, arith, subst, FitsSigned, w64, to_z-of_z, ◌+ℤ◌}
+use Rattle.std.proofs.lemmas.Int.{ints}
+use Rattle.clk_words.specs.declared.opening.Start.{Start}
+use Rattle.clk_words.specs.Histories.{opens_at, steps_on, IsChain}
+use Rattle.clk_tool.specs.Running.{IsSound}
+use Rattle.clk_tool.specs.Booting.{known_by}
+use Rattle.clk_tool.proofs.Starting.{may_run, still_second}
 use Rattle.clk_tool.proofs.run.run_in.Goals as goal
 
--- the boot leaves what the script needs
-pub run-requires-clause-enough : goal.run-requires-clause-enough
-run-requires-clause-enough g c =
-    let m = c.args.boot.shared.machine in
-    let opened = c.requires.booted.opened in
-    let one = one_thread m c.requires.built in
-    let tickets = tickets_few m one opened.ready.limits in
-    let left = opened.left in
-    let updates = updates_few m one opened.ready.limits in
-    let budget = opened.updates in
-    record { tickets = omega (arith, tickets, left); updates = omega (arith, updates, budget) }
+pub run_thread-ran-requires-clause-ready : goal.run_thread-ran-requires-clause-ready
+run_thread-ran-requires-clause-ready g c = may_run c.args.boot c.requires.built c.requires.booted
+
+pub overflow_add-trace : goal.overflow_add-trace
+overflow_add-trace g c =
+    let gtod : FitsSigned w64 c.args.boot.stamp.gtod = search rules in
+    let offset : FitsSigned w64 c.args.boot.stamp.offset = search rules in
+    let (from, upto) = c.requires.booted.stamped.gtod_bound in
+    let (low, high) = c.requires.booted.stamped.offset_bound in
+    simp to_z-of_z (omega (arith, ints, from, upto, low, high))
+
+pub end_words-closed-requires-clause-owner : goal.end_words-closed-requires-clause-owner
+end_words-closed-requires-clause-owner g c =
+    let ran = c.run_thread-ran.ensures in
+    (ran.words, still_second c.args.boot.shared.machine c.args.boot c.run_thread-ran.result.events.items (known_by c.run_thread-ran.result.seats) c.requires.booted ran.runs)
 
 pub returns : goal.returns
 returns g c =
-    let offset : FitsSigned w64 c.args.boot.stamp.offset = search rules in
-    let word : FitsSigned w64 c.args.boot.clock.word = search rules in
-    record {
+    let b = c.args.boot in
+    let booted = c.requires.booted in
+    let ran = c.run_thread-ran.ensures in
+    let gtod : FitsSigned w64 b.stamp.gtod = search rules in
+    let offset : FitsSigned w64 b.stamp.offset = search rules in
+    let (from, upto) = booted.stamped.gtod_bound in
+    let (low, high) = booted.stamped.offset_bound in
+    let word : FitsSigned w64 (b.stamp.gtod +ℤ b.stamp.offset) = omega (arith, ints, from, upto, low, high) in
+    simp to_z-of_z (record {
       built = c.requires.built;
-      boot = c.args.boot;
-      booted = c.requires.booted;
-      after = c.run.new.self.clock;
-      events = c.run.new.self.events;
-      history = c.run.new.self.history;
-      script = rw take-length at c.run.ensures.script;
-      runs = c.run.ensures.runs;
-      ready = c.run.ensures.ready;
+      boot = b;
+      booted = booted;
+      after = known_by c.run_thread-ran.result.seats;
+      events = c.run_thread-ran.result.events;
+      history = c.run_thread-ran.result.history;
+      script = ran.script;
+      runs = ran.runs;
+      sound = subst (λ n. IsSound b.shared.machine n c.run_thread-ran.result.seats.latch.epoch c.run_thread-ran.result.seats.time) booted.total ran.sound;
       finished = c.finish.ensures.cover;
-      steps = c.run.ensures.history;
+      closed_is = c.end_words-closed.ensures.history;
+      chain = subst (λ (s : Start). IsChain (opens_at s) (steps_on 0 c.run_thread-ran.result.seats.owner.view.mine)) booted.start c.end_words-closed.ensures.chain;
+      steps = ran.steps;
       epoch_ticket = refl;
       epoch_cyc = refl;
       boots = rw c.requires.room.boots.0 at c.push.ensures.items;
       starts = refl;
       sched_offset = refl;
-      gtod_offset = to_z-of_z offset;
-      start_word = to_z-of_z word;
+      gtod_offset = refl;
+      start_word = refl;
       cpu_of = rw c.requires.room.cpu_of.0 at c.push-2.ensures.items;
       threads = rw c.requires.room.threads.0 at c.push-3.ensures.items;
       histories = rw c.requires.room.histories.0 at c.push-4.ensures.items;
-    }
+    })

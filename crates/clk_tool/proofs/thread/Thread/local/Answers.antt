@@ -1,21 +1,20 @@
-use Rattle.std.proofs.Common.{rules, refl, FitsSigned, w64, to_z-of_z}
-use Rattle.clk_tool.proofs.EventSteps.{local_line}
+use Rattle.std.proofs.Common.{[], ◌∷◌, refl, arith, ap, subst}
+use Rattle.clk_local.specs.Context.{Site}
+use Rattle.clk_local.specs.Shows.{ShowsReading}
+use Rattle.clk_machine.specs.declared.script.Word.TheVariants as word
+use Rattle.clk_tool.specs.Making.{machine_of, known}
+use Rattle.clk_tool.proofs.Making.{site_is, ready_after, stands_after, made}
+use Rattle.clk_tool.proofs.Showing.{showed_reading}
 use Rattle.clk_tool.proofs.thread.Thread.local.Goals as goal
 
-pub returns-clause-made : goal.returns-clause-made
-returns-clause-made c =
-    let old : FitsSigned w64 c.args.self.now.clock.word = search rules in
-    let new : FitsSigned w64 c.local-kind.new.self.word = search rules in
-    let line = simp (to_z-of_z, c.len.ensures) at c.push.ensures.items in
-    record {
-      kind = c.local-kind.result;
-      is = c.local-kind.ensures.kind;
-      makes = record {
-        events = c.push-2.ensures.items;
-        runs = (c.local-kind.new.self, c.local-kind.ensures.shows, refl);
-        history = rw (local_line _ _ _ _ _ _ c.local-kind.ensures.kind c.local-kind.ensures.shows) line;
-      };
-      events_room = search rules;
-      history_room = search rules;
-      ready = c.local-kind.ensures.ready;
-    }
+pub returns : goal.returns
+returns c =
+    let v = c.args.self.now in
+    let u = record v { ctx = c.local-reading.new.ctx } in
+    let told = c.local-reading.ensures in
+    let at = subst (λ (z : Site). ShowsReading z (known v) c.local-reading.result (known u)) (site_is v c.requires.ready) told.shows in
+    let showed = showed_reading (machine_of v) v.ctx.tickets.now.total v.ctx.call (known v) (known u) c.local-reading.result c.requires.ready.sound c.requires.left told.percpu at in
+    let kinds = showed.kinds_are in
+    made word.Local (showed.kind ∷ []) 1 v u c.keep_reading.new.self (showed.kind, refl, showed.is) refl (ap (λ (z : Site). z.call) told.keeps.site)
+    showed.showed.runs showed.showed.spends (stands_after v u told.keeps) (ready_after v u c.requires.ready told.keeps showed.showed.sound)
+    (rw kinds at c.keep_reading.ensures) (omega arith) (omega arith)

@@ -1,18 +1,45 @@
-use Rattle.std.proofs.Common.{rules, refl, append-nil}
-use Rattle.clk_tool.proofs.EventSteps.{pause_line}
+use Rattle.std.proofs.Common.{refl, arith, ap, ◌∙◌, sym, rules, append-nil}
+use Rattle.clk_ticket.specs.Time.{Time}
+use Rattle.clk_tool.proofs.Sounding.{draws_sound}
 use Rattle.clk_tool.proofs.thread.Thread.pause.Goals as goal
 
-pub returns-clause-made : goal.returns-clause-made
-returns-clause-made c =
+pub returns : goal.returns
+returns c =
+    let v = c.args.self.now in
+    let ready = c.requires.ready in
+    let drew = c.draw-ticket.ensures in
+    let left = ap (λ (t : Time). t.left) drew.is in
+    let within = c.requires.left.1 in
     record {
-      kind = c.pause-kind.result;
-      is = c.pause-kind.ensures.kind;
+      kinds = _;
+      calls = (_, refl, refl);
       makes = record {
         events = c.push.ensures.items;
-        runs = (c.pause-kind.new.self, c.pause-kind.ensures.shows, refl);
-        history = rw (pause_line _ _ _ _ c.pause-kind.ensures.kind, append-nil);
+        runs = (_, record { draws = drew; epoch_is = refl; view_is = refl }, refl);
+        history = sym (append-nil v.history.items);
       };
+      spends = record { tickets_left = omega (arith, left, within); updates_left = omega arith };
       events_room = search rules;
-      history_room = search rules;
-      ready = c.pause-kind.ensures.ready;
+      history_room = omega arith;
+      stands = record { words = refl; epochs = refl; tickets = refl; machine = refl };
+      ready = record {
+        limits = ready.limits;
+        cpu = ready.cpu;
+        adjust = ready.adjust;
+        usable = record {
+          of_words = ready.usable.of_words;
+          of_latch = ready.usable.of_latch;
+          of_tickets = ap (λ (t : Time). t.table) drew.is ∙ ready.usable.of_tickets;
+          reading = ready.usable.reading;
+          found = ready.usable.found;
+          cpu_is = ready.usable.cpu_is;
+          words_cpu = ready.usable.words_cpu;
+          machine_cpu = ready.usable.machine_cpu;
+          near = ready.usable.near;
+          tick_is = ready.usable.tick_is;
+          offset = ready.usable.offset;
+        };
+        may_stamp = ready.may_stamp;
+        sound = draws_sound _ _ _ _ _ _ _ ready.sound drew;
+      };
     }

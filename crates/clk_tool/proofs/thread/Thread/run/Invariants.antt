@@ -2,4 +2,4 @@ use Rattle.clk_tool.specs.Making.{HasMade}
 use Rattle.clk_tool.proofs.thread.Thread.run.Given as goal
 
 abbrev pub invariant-loop-call : goal.invariant-loop-call
-invariant-loop-call g l = HasMade l.shared l.initial.self.clock l.call l.self
+invariant-loop-call g l = HasMade l.initial.self l.call l.self

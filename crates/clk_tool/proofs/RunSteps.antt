@@ -1,0 +1,143 @@
+-- The steps of a run: those of its events, each of which raises the word that it found.
+use Rattle.std.proofs.Common.{◌≡◌, ℕ, ℤ, ◌+◌, ◌+ℤ◌, List, [], ◌∷◌, ◌++◌, map, ap, ◌∙◌, sym, subst, refl, append_assoc, append-nil}
+use Rattle.std.specs.List.{flat_map}
+use Rattle.clk_num.specs.Clamp.{raise, local_target, elapsed}
+use Rattle.clk_words.specs.declared.opening.Start.{Start}
+use Rattle.clk_words.specs.declared.kind.SeatKind.TheVariants.{Owner}
+use Rattle.clk_words.specs.declared.step.Step.{Step}
+use Rattle.clk_words.specs.declared.step.Why.{Why}
+use Rattle.clk_words.specs.declared.step.Why.TheVariants.{Raise}
+use Rattle.clk_words.specs.declared.view.View.{View}
+use Rattle.clk_words.specs.Kinds.{cpu_of}
+use Rattle.clk_words.specs.Targets.{target}
+use Rattle.clk_words.specs.Histories.{steps_on, IsChain}
+use Rattle.clk_machine.specs.Plan.{Plan}
+use Rattle.clk_machine.specs.declared.reading.RawReading.{RawReading}
+use Rattle.clk_local.specs.Context.{Known}
+use Rattle.clk_trace.specs.WordHistory.{steps_of_kind, steps_from}
+use Rattle.clk_trace.specs.LegalHistory.{IsChain as IsTraceChain}
+use Rattle.clk_trace.specs.declared.event.Event.{Event}
+use Rattle.clk_trace.specs.declared.event.EventKind.{EventKind}
+use Rattle.clk_trace.specs.declared.event.EventKind.TheVariants.{Local, Stamp, Update, Pause}
+use Rattle.clk_tool.specs.Running.{Shows, ShowsLocal, Runs, site}
+use Rattle.clk_tool.specs.Finishing.{Change, change_of, change_in}
+use Rattle.clk_tool.proofs.RunKeeping.{Fixed, fixed, shows_fixed}
+
+-- the seat is that of the owner of CPU 0, which was given first
+pub record IsHome (start : Start) (v : View) : Type 0 where
+  pub start_is : v.start ≡ start
+  pub number : v.number ≡ 1
+  pub kind : v.kind ≡ Owner 0
+
+pub home_stays : (start : Start) (v w : View) → fixed w ≡ fixed v → IsHome start v → IsHome start w
+home_stays start v w same h =
+    record {
+      start_is = ap (λ (f : Fixed). f.start) same ∙ h.start_is;
+      number = ap (λ (f : Fixed). f.number) same ∙ h.number;
+      kind = ap (λ (f : Fixed). f.kind) same ∙ h.kind;
+    }
+
+-- the step of the clock words that an event is
+abbrev pub word_steps_of : ℕ → EventKind → List Step
+word_steps_of call (Local raw tick_raw tick_gtod offset old new) =
+    record { by = 1; call = call; word = 0; why = Raise raw.ns tick_raw tick_gtod offset; old = old; new = new } ∷ []
+word_steps_of call _ = []
+
+abbrev pub word_steps : List Event → List Step
+word_steps es = flat_map (λ e. word_steps_of e.call e.kind) es
+
+same_fields : (s : Step) (call : ℕ) (why : Why) (old new : ℤ) → s.by ≡ 1 → s.call ≡ call → s.word ≡ 0 → s.why ≡ why → s.old ≡ old → s.new ≡ new
+    → s ≡ record { by = 1; call = call; word = 0; why = why; old = old; new = new }
+same_fields s call why old new a b c d e f =
+    ap (λ x. record s { by = x }) a ∙ ap (λ x. record s { by = 1; call = x }) b ∙ ap (λ x. record s { by = 1; call = call; word = x }) c
+    ∙ ap (λ x. record s { by = 1; call = call; word = 0; why = x }) d ∙ ap (λ x. record s { by = 1; call = call; word = 0; why = why; old = x }) e
+    ∙ ap (λ x. record s { by = 1; call = call; word = 0; why = why; old = old; new = x }) f
+
+local_step : (m : Plan) (start : Start) (call : ℕ) (v w : Known) (raw : RawReading) (tick_raw tick_gtod offset old new : ℤ) → IsHome start v.view
+    → (h : ShowsLocal (site m call) v raw tick_raw tick_gtod offset old new w)
+    → h.step ≡ record { by = 1; call = call; word = 0; why = Raise raw.ns tick_raw tick_gtod offset; old = old; new = new }
+local_step m start call v w raw tick_raw tick_gtod offset old new home h =
+    let is = h.raised.step_is in
+    same_fields h.step call (Raise raw.ns tick_raw tick_gtod offset) old new
+    (ap (λ (s : Step). s.by) is ∙ home.number) (ap (λ (s : Step). s.call) is) (ap (λ (s : Step). s.word) is ∙ ap cpu_of home.kind) h.why_is h.old_is h.new_is
+
+shows_mine : (m : Plan) (start : Start) (call : ℕ) (v : Known) (k : EventKind) (w : Known) → IsHome start v.view → Shows m call v k w
+    → w.view.mine ≡ v.view.mine ++ word_steps_of call k
+shows_mine m start call v (Local raw tick_raw tick_gtod offset old new) w home h =
+    h.raised.mine_is ∙ ap (λ s. v.view.mine ++ s ∷ []) (local_step m start call v w raw tick_raw tick_gtod offset old new home h)
+shows_mine m start call v (Stamp gtod_ticket gtod raw) w home h = ap (λ (x : View). x.mine) h.view_is ∙ sym (append-nil v.view.mine)
+shows_mine m start call v (Update p) w home h = ap (λ (x : View). x.mine) h.view_is ∙ sym (append-nil v.view.mine)
+shows_mine m start call v (Pause ticket count) w home h = ap (λ (x : View). x.mine) h.view_is ∙ sym (append-nil v.view.mine)
+
+pub runs_mine : (m : Plan) (start : Start) (v : Known) (es : List Event) (w : Known) → IsHome start v.view → Runs m v es w
+    → w.view.mine ≡ v.view.mine ++ word_steps es
+runs_mine m start v [] w home r = rw (← r) (sym (append-nil v.view.mine))
+runs_mine m start v (e ∷ es) w home r =
+    runs_mine m start r.0 es w (home_stays start v.view r.0.view (shows_fixed m e.call v e.kind r.0 r.1) home) r.2
+    ∙ ap (λ (xs : List Step). xs ++ word_steps es) (shows_mine m start e.call v e.kind r.0 home r.1)
+    ∙ append_assoc v.view.mine (word_steps_of e.call e.kind) (word_steps es)
+
+-- a reading raises the word to its target
+abbrev pub RaisesKind : ℤ → EventKind → Type 0
+RaisesKind tick (Local raw tick_raw tick_gtod offset old new) = new ≡ raise old (local_target (tick_gtod +ℤ offset) (elapsed raw.ns tick_raw) tick)
+RaisesKind tick _ = Unit {0}
+
+abbrev pub AllRaise : ℤ → List Event → Type 0
+AllRaise tick [] = Unit {0}
+AllRaise tick (e ∷ es) = RaisesKind tick e.kind × AllRaise tick es
+
+shows_raise : (m : Plan) (start : Start) (call : ℕ) (v : Known) (k : EventKind) (w : Known) → IsHome start v.view → Shows m call v k w → RaisesKind start.tick k
+shows_raise m start call v (Local raw tick_raw tick_gtod offset old new) w home h =
+    let is = h.raised.step_is in
+    let made : h.step.new ≡ raise h.step.old (target v.view.start.tick h.step.why) =
+    ap (λ (s : Step). s.new) is ∙ ap (λ (y : Why). raise h.step.old (target v.view.start.tick y)) (sym (ap (λ (s : Step). s.why) is)) in
+    sym h.new_is ∙ made ∙ ap (λ (o : Start). raise h.step.old (target o.tick h.step.why)) home.start_is
+    ∙ ap (λ y. raise h.step.old (target start.tick y)) h.why_is ∙ ap (λ x. raise x (target start.tick (Raise raw.ns tick_raw tick_gtod offset))) h.old_is
+shows_raise m start call v (Stamp gtod_ticket gtod raw) w home h = tt
+shows_raise m start call v (Update p) w home h = tt
+shows_raise m start call v (Pause ticket count) w home h = tt
+
+pub runs_raise : (m : Plan) (start : Start) (v : Known) (es : List Event) (w : Known) → IsHome start v.view → Runs m v es w → AllRaise start.tick es
+runs_raise m start v [] w home r = tt
+runs_raise m start v (e ∷ es) w home r = (
+  shows_raise m start e.call v e.kind r.0 home r.1,
+  runs_raise m start r.0 es w (home_stays start v.view r.0.view (shows_fixed m e.call v e.kind r.0 r.1) home) r.2,
+)
+
+-- all of them are on the one word
+on_each : (call : ℕ) (k : EventKind) (rest : List Step) → steps_on 0 rest ≡ rest → steps_on 0 (word_steps_of call k ++ rest) ≡ word_steps_of call k ++ rest
+on_each call (Local raw tick_raw tick_gtod offset old new) rest same =
+    ap (λ (xs : List Step). record { by = 1; call = call; word = 0; why = Raise raw.ns tick_raw tick_gtod offset; old = old; new = new } ∷ xs) same
+on_each call (Stamp gtod_ticket gtod raw) rest same = same
+on_each call (Update p) rest same = same
+on_each call (Pause ticket count) rest same = same
+
+pub on_the_word : (es : List Event) → steps_on 0 (word_steps es) ≡ word_steps es
+on_the_word [] = refl
+on_the_word (e ∷ es) = on_each e.call e.kind (word_steps es) (on_the_word es)
+
+-- a chain of the words' steps is one of the trace's
+chain_each : (tick x : ℤ) (call part : ℕ) (k : EventKind) (es : List Event) → IsChain x (word_steps_of call k ++ word_steps es) → RaisesKind tick k
+    → ((y : ℤ) → IsChain y (word_steps es) → IsTraceChain tick y (steps_from 0 (part + 1) es)) → IsTraceChain tick x (steps_of_kind 0 call part k ++ steps_from 0 (part + 1) es)
+chain_each tick x call part (Local raw tick_raw tick_gtod offset old new) es chain raises later =
+    (chain.0, subst (λ y. new ≡ raise y (local_target (tick_gtod +ℤ offset) (elapsed raw.ns tick_raw) tick)) chain.0 raises, later new chain.1)
+chain_each tick x call part (Stamp gtod_ticket gtod raw) es chain raises later = later x chain
+chain_each tick x call part (Update p) es chain raises later = later x chain
+chain_each tick x call part (Pause ticket count) es chain raises later = later x chain
+
+pub trace_chain : (tick x : ℤ) (part : ℕ) (es : List Event) → IsChain x (word_steps es) → AllRaise tick es → IsTraceChain tick x (steps_from 0 part es)
+trace_chain tick x part [] chain raises = tt
+trace_chain tick x part (e ∷ es) chain raises =
+    chain_each tick x e.call part e.kind es chain raises.0 (λ y later. trace_chain tick y (part + 1) es later raises.1)
+
+-- and its lines show the same changes
+changes_each : (call part : ℕ) (k : EventKind) (es : List Event) → map change_of (word_steps es) ≡ map change_in (map (λ s. s.line) (steps_from 0 (part + 1) es))
+    → map change_of (word_steps_of call k ++ word_steps es) ≡ map change_in (map (λ s. s.line) (steps_of_kind 0 call part k ++ steps_from 0 (part + 1) es))
+changes_each call part (Local raw tick_raw tick_gtod offset old new) es same = ap (λ (xs : List Change). record { old = old; new = new } ∷ xs) same
+changes_each call part (Stamp gtod_ticket gtod raw) es same = same
+changes_each call part (Update p) es same = same
+changes_each call part (Pause ticket count) es same = same
+
+pub same_changes : (part : ℕ) (es : List Event) → map change_of (word_steps es) ≡ map change_in (map (λ s. s.line) (steps_from 0 part es))
+same_changes part [] = refl
+same_changes part (e ∷ es) = changes_each e.call part e.kind es (same_changes (part + 1) es)
