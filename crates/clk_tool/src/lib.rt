@@ -8,9 +8,10 @@
 //! - [`Source`] and `Sink` count their faults, and a call of theirs fails only where the count rose. In memory
 //!   ([`MemSource`], [`MemSink`], [`SureSource`], [`SureSink`]) they tell their bytes; over std ([`StdSource`],
 //!   [`StdSink`]) what a file or a terminal holds is known to no contract.
-//! - The runner makes the boot and the script of the one CPU on the calling thread, as Linux 6.1's
-//!   `kernel/sched/clock.c` does with a per-CPU clock: stamps at ticks, readings that never fall and never pass the end
-//!   of their tick.
+//! - The runner makes the boot and the script of the one CPU on the calling thread, by its seats at the ticket table, the
+//!   latch and the clock words that threads share: so the trace's last number, its readings and its histories are what
+//!   these tables answered. As in Linux 6.1's `kernel/sched/clock.c` with a per-CPU clock, ticks stamp, and readings
+//!   never fall and never pass the end of their tick.
 //!
 //! No call waits, and all return.
 #![tactic(auto)]
