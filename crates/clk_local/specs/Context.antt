@@ -39,7 +39,6 @@ pub record IsUsable {E S : Type 0} (fits : E → S → Type 0) (ctx : Ctx E S) :
   pub reading : IsReading ctx.seat.view.kind
   pub found : HasFoundPerCpu ctx.seat.view
   pub cpu_is : ctx.counter.cpu ≡ cpu_of ctx.seat.view.kind
-  pub words_cpu : ctx.counter.cpu < ctx.words.now.start.cpus
   pub machine_cpu : ctx.counter.cpu < cpu_count ctx.counter.machine.now
   pub near : IsNear 47 ctx.counter.adjust
   pub tick_is : ctx.words.now.start.tick ≡ ctx.counter.machine.now.tick

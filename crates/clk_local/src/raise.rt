@@ -1,5 +1,5 @@
 //! How a thread raises its own CPU's clock word.
-ghost use Rattle.std.specs.Prelude.{◌≡◌, ◌<◌};
+ghost use Rattle.std.specs.Prelude.{◌≡◌};
 ghost use Rattle.clk_num.specs.Clamp.{raise as raised_by};
 ghost use Rattle.clk_words.specs.Bounds.{IsClock, IsRaw, IsTick};
 ghost use Rattle.clk_words.specs.Held.{place_of};
@@ -77,7 +77,6 @@ fn raised(old: &i64, since: &Since, tick: &i64) -> i64
 fn attempt(words: &Words, seat: &mut Seat, call: u32, since: &Since, tick: &i64) -> Put
     requires own { place_of seat.old ≡ words.now }
     requires found { HasFoundPerCpu seat.old.view }
-    requires word { cpu_of seat.old.view.kind < words.now.start.cpus }
     requires tick { words.now.start.tick ≡ tick.now }
     requires range { IsTick tick.now }
     requires trusted { IsTrusted seat.old.view (why_of since.now) }
@@ -99,7 +98,6 @@ fn attempt(words: &Words, seat: &mut Seat, call: u32, since: &Since, tick: &i64)
 pub(crate) fn raise(words: &Words, seat: &mut Seat, call: u32, since: &Since, tick: &i64) -> Step
     requires own { place_of seat.old ≡ words.now }
     requires found { HasFoundPerCpu seat.old.view }
-    requires word { cpu_of seat.old.view.kind < words.now.start.cpus }
     requires tick { words.now.start.tick ≡ tick.now }
     requires range { IsTick tick.now }
     requires trusted { IsTrusted seat.old.view (why_of since.now) }

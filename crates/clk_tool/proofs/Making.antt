@@ -169,7 +169,6 @@ next_call n t u is r =
         reading = r.usable.reading;
         found = r.usable.found;
         cpu_is = r.usable.cpu_is;
-        words_cpu = r.usable.words_cpu;
         machine_cpu = r.usable.machine_cpu;
         near = r.usable.near;
         tick_is = r.usable.tick_is;

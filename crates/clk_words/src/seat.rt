@@ -1,4 +1,4 @@
-ghost use Rattle.std.specs.Prelude.{◌≡◌};
+ghost use Rattle.std.specs.Prelude.{◌≡◌, ◌<◌};
 ghost use Rattle.clk_words.specs.Kinds.{cpu_of};
 
 use crate::kind::SeatKind;
@@ -37,9 +37,10 @@ impl Seat {
         self.number
     }
 
-    /// The CPU that the seat is on. The watchdog's seat shows CPU 0.
+    /// The CPU that the seat is on, which is one of the words'. The watchdog's seat shows CPU 0.
     pub fn cpu(&self) -> u32
-        ensures { result ≡ cpu_of self.now.view.kind }
+        ensures cpu { result ≡ cpu_of self.now.view.kind }
+        ensures within { result < self.now.view.start.cpus }
     {
         match self.kind {
             SeatKind::Owner(cpu) | SeatKind::Reader(cpu) => cpu,

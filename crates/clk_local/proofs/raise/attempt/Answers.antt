@@ -30,13 +30,13 @@ returns-clause-done c =
     let put : c.raised-new.result ≡ raise c.load_clock-old.result (target v.start.tick c.why.result) =
     is ∙ ap (λ t. raise c.load_clock-old.result (target t (why_of c.args.since.now))) (sym tick) ∙ ap (λ (w : Why). raise c.load_clock-old.result (target v.start.tick w)) (sym c.why.ensures) in
     subst (λ (w : Why). OnDone c.try_put.result (λ s. (s ≡ own_step v c.args.call w s.old) × Raises v s c.try_put.new.seat.view)) c.why.ensures
-    (attempt_done c.try_put.result _ _ _ _ _ _ _ _ c.cpu-cpu.ensures c.load_clock-old.ensures.loads put done)
+    (attempt_done c.try_put.result _ _ _ _ _ _ _ _ c.cpu-cpu.ensures.cpu c.load_clock-old.ensures.loads put done)
 
 pub returns-clause-lost : goal.returns-clause-lost
 returns-clause-lost c =
     let old : FitsSigned w64 c.load_clock-old.result = search rules in
     let lost = simp to_z-of_z at c.try_put.ensures.lost in
-    rw (← c.cpu-cpu.ensures) (attempt_lost c.try_put.result _ _ _ _ _ c.load_clock-old.ensures.loads lost)
+    rw (← c.cpu-cpu.ensures.cpu) (attempt_lost c.try_put.result _ _ _ _ _ c.load_clock-old.ensures.loads lost)
 
 pub returns-clause-trusted : goal.returns-clause-trusted
 returns-clause-trusted c =

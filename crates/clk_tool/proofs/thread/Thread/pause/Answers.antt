@@ -33,7 +33,6 @@ returns c =
           reading = ready.usable.reading;
           found = ready.usable.found;
           cpu_is = ready.usable.cpu_is;
-          words_cpu = ready.usable.words_cpu;
           machine_cpu = ready.usable.machine_cpu;
           near = ready.usable.near;
           tick_is = ready.usable.tick_is;

@@ -9,7 +9,7 @@ use Rattle.clk_words.proofs.words.Words.load_raw.Goals as goal
 pub load-requires : goal.load-requires
 load-requires c =
     let own = belongs _ _ c.seat.inside.at.me.0 _ _ _ c.seat.view_is c.requires.own c.self.view_is in
-    let cpu = c.cpu.ensures ∙ ap (λ (h : Held). cpu_of h.view.kind) (sym c.seat.view_is) in
+    let cpu = c.cpu.ensures.cpu ∙ ap (λ (h : Held). cpu_of h.view.kind) (sym c.seat.view_is) in
     let word = raw_place _ _ _ _ _ _ c.self.view_is c.raw_word-word.ensures.word cpu in
     let within = within_table _ _ _ _ c.self.view_is c.raw_word-word.ensures.within in
     (own.table_is, within, finds_raw_at _ _ _ _ _ word c.seat.invariant.live (cpu_low _ _ _ _ _ own c.seat.invariant.within))

@@ -13,7 +13,7 @@ use Rattle.clk_words.proofs.words.Words.stamp_gtod.Goals as goal
 pub store-requires : goal.store-requires
 store-requires c =
     let own = belongs _ _ c.seat.inside.at.me.0 _ _ _ c.seat.view_is c.requires.own c.self.view_is in
-    let cpu = c.cpu.ensures ∙ ap (λ (h : Held). cpu_of h.view.kind) (sym c.seat.view_is) in
+    let cpu = c.cpu.ensures.cpu ∙ ap (λ (h : Held). cpu_of h.view.kind) (sym c.seat.view_is) in
     let word = gtod_place _ _ _ _ _ _ c.self.view_is c.gtod_word-word.ensures.word cpu in
     let within = within_table _ _ _ _ c.self.view_is c.gtod_word-word.ensures.within in
     let fits : FitsSigned w64 c.args.value = search rules in
