@@ -1,5 +1,5 @@
 -- How much a record adds for a counter value, whatever machine they are of.
-use Rattle.std.proofs.Common.{◌≡◌, ℕ, ◌+◌, ◌-◌, ◌*◌, ◌/◌, ◌^◌, ◌<◌, ◌≤◌, ℤ, pos, ◌+ℤ◌, ⊎_elim, sym, ap, ◌∙◌, subst, arith}
+use Rattle.std.proofs.Common.{◌≡◌, ℕ, ◌+◌, ◌-◌, ◌*◌, ◌/◌, ◌%◌, ◌^◌, ◌<◌, ◌≤◌, ℤ, pos, ◌+ℤ◌, ⊎_elim, sym, ap, ◌∙◌, subst, arith}
 use Rattle.std.specs.Prelude.{nat_lt, if◌then◌else◌}
 use Rattle.std.proofs.Math.Nat.{mul-le-mul_right, mod-lt}
 use Rattle.std.proofs.lemmas.Nat.{div-add-mod', pow-add, pow_pos}
@@ -7,12 +7,15 @@ use Rattle.std.proofs.lemmas.Bool.{cases_lt}
 use Rattle.std.proofs.lemmas.Bool.Decides.{nat_tests}
 use Rattle.std.proofs.lemmas.Int.{ints}
 use mir.Syntax.{w64}
-use mir.Val.{SFits, to_z, of_z}
+use mir.Val.{to_z, of_z}
 use Rattle.clk_num.specs.declared.rate.Rate.{Rate}
 use Rattle.clk_num.specs.Conversion.{convert}
 use Rattle.clk_num.specs.Masked.{mask_of, turned, masked_delta}
+use Rattle.clk_num.specs.Range.{IsFrom0To}
+use Rattle.clk_num.specs.Wrapping.{IsValue, above, wrap}
+use Rattle.clk_num.proofs.Wraps.{wrapped}
+use Rattle.clk_num.proofs.Heights.{sum_is}
 use Rattle.clk_machine.specs.Plan.{Plan, count_of}
-use Rattle.clk_machine.specs.Laws.{IsFrom0To}
 use Rattle.clk_machine.specs.Limits.{IsWithinLimits}
 use Rattle.clk_machine.specs.Time.{sched_rate}
 use Rattle.clk_machine.proofs.Bounds.{convert_small, width_few}
@@ -81,17 +84,14 @@ is_added m now last bits cycles rate l a b width delta same =
     ap (λ n. convert n rate) cycles_are ∙ ap (convert (masked_delta now last (count_of m.bits))) same in
     (ns_are, subst (λ n. n ≤ 41 * 2 ^ 52) (sym ns_are) (added_few m now last l a b))
 
--- the sum of a record's ns and those
-pub sum_fits : (ns : ℤ) (more : ℕ) → IsFrom0To (46 * 2 ^ 52) ns → more ≤ 41 * 2 ^ 52 → SFits w64 (to_z w64 (of_z w64 ns) +ℤ to_z w64 more)
-sum_fits ns more small few = omega (arith, ints, small.0, small.1, few)
+-- the sum of a record's ns and those, as the code adds them
+pub ns_is : (ns : ℤ) (more : ℕ) → IsValue ns → more ≤ 41 * 2 ^ 52 → to_z w64 ((of_z w64 ns + more) % 2 ^ 64) ≡ wrap (ns +ℤ pos more)
+ns_is ns more fits few = sum_is ns (pos more) fits (omega (arith, ints, few))
 
-pub sum_is : (ns : ℤ) (more : ℕ) → IsFrom0To (46 * 2 ^ 52) ns → more ≤ 41 * 2 ^ 52
-    → to_z w64 (of_z w64 (to_z w64 (of_z w64 ns) +ℤ to_z w64 more)) ≡ ns +ℤ pos more
-sum_is ns more small few = omega (arith, ints, small.0, small.1, few)
+-- it is as far above the record's ns as those are many
+pub sum_above : (ns : ℤ) (more : ℕ) → more ≤ 41 * 2 ^ 52 → IsFrom0To (41 * 2 ^ 52) (above (wrap (ns +ℤ pos more)) ns)
+sum_above ns more few = (omega (arith, ints, wrapped, few), omega (arith, ints, wrapped, few))
 
-pub sum_small : (ns : ℤ) (more : ℕ) → IsFrom0To (46 * 2 ^ 52) ns → more ≤ 41 * 2 ^ 52 → IsFrom0To (11 * 2 ^ 55) (ns +ℤ pos more)
-sum_small ns more small few = (omega (arith, ints, small.0, small.1, few), omega (arith, ints, small.0, small.1, few))
-
--- a signed word holds such a sum
-pub sum_stays : (ns : ℤ) → IsFrom0To (11 * 2 ^ 55) ns → to_z w64 (of_z w64 ns) ≡ ns
-sum_stays ns small = omega (arith, ints, small.0, small.1)
+-- a signed word holds a sum that wraps
+pub sum_stays : (ns n : ℤ) → ns ≡ wrap n → to_z w64 (of_z w64 ns) ≡ ns
+sum_stays ns n is = omega (arith, ints, wrapped, is)

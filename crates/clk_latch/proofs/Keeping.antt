@@ -1,18 +1,19 @@
 -- Each step keeps the rule: loads change one view, stores and raises also a word.
-use Rattle.std.proofs.Common.{◌≡◌, ◌≢◌, ℕ, ◌+◌, ◌%◌, ◌^◌, ◌<◌, ◌≤◌, true, false, pos, List, [], ◌∷◌, ◌++◌, length, get_or, set, refl, sym, ap, ◌∙◌, subst, ⊎_elim, arith, length-set, length-append, get_or-set_same, get_or-set_other}
+use Rattle.std.proofs.Common.{◌≡◌, ◌≢◌, ℕ, ◌+◌, ◌*◌, ◌%◌, ◌^◌, ◌<◌, ◌≤◌, true, false, List, [], ◌∷◌, ◌++◌, length, get_or, set, refl, sym, ap, ◌∙◌, subst, ⊎_elim, arith, length-set, length-append, get_or-set_same, get_or-set_other}
 use Rattle.std.proofs.Math.Seq.{get_or-append_seam}
 use Rattle.std.proofs.lemmas.List.{set-get_or, get_or_append_left}
 use Rattle.std.proofs.lemmas.Grind.{get_or-set_at}
 use Rattle.std.proofs.lemmas.Bool.{cases_lt}
-use mathlib.Core.Option.{some, none}
+use mathlib.Core.Option.{some, none, some-injective}
 use mathlib.Core.List.{IsPrefix}
 use lib.ListN.{get_elem?}
 use Rattle.atomic_table.specs.Table.{State, Me, keeps, step, Allows}
 use Rattle.atomic_table.proofs.Lists.{at_set, at_snoc}
-use Rattle.clk_num.specs.Biased.{IsWordOf}
+use Rattle.clk_num.specs.Range.{IsFrom0To}
+use Rattle.clk_num.specs.Wrapping.{above, IsBitsOf}
 use Rattle.clk_machine.specs.declared.reading.Published.{Published}
 use Rattle.clk_latch.specs.declared.rule.Knows.{Knows}
-use Rattle.clk_latch.specs.Kept.{sequence, number, used, idle, Holds, Stands, IsSmall, Known, Latched, knows_begun, knows_later, knows_written, knows_published, knows_settled, Began, Loaded, Closed, Put, Learnt}
+use Rattle.clk_latch.specs.Kept.{sequence, number, used, idle, Holds, Stands, IsSmallIn, Known, Latched, knows_begun, knows_later, knows_written, knows_published, knows_settled, Began, Loaded, Closed, Put, Learnt}
 use Rattle.clk_latch.specs.Turns.{IsWritten, EndsWith}
 use Rattle.clk_latch.proofs.Prefixes.{prefix_self, prefix_trans, prefix_more, prefix_shorter, prefix_at, at_within, at_once, at_end}
 
@@ -40,7 +41,6 @@ watched s id w l mine right = record {
   low = l.low;
   count = l.count;
   whole = l.whole;
-  zero = l.zero;
   small = l.small;
   known = view_set (λ _ u. Known (sequence s) l.all s.words u) id w s.views (λ j u _ e. l.known j u e) mine;
   owner = l.owner;
@@ -90,7 +90,6 @@ begins slots id me s l homes at fits =
         later = k.seen;
         low = l.low;
         count = l.count;
-        zero = l.zero;
         small = λ p e. l.small (number n) p e;
         owner = λ o. let x = k.owner o in (sym x.records, sym x.seen);
       },
@@ -153,8 +152,7 @@ record IsGood (n : ℕ) (all : List Published) (words : List ℕ) : Type 0 where
   low : n ≤ 2048
   count : length all ≡ number n + 1
   whole : (p : Published) → get_elem? all (number n) ≡ some p → Holds words (used n) p
-  zero : (p : Published) → get_elem? all 0 ≡ some p → p.ns ≡ pos 0
-  small : (i : ℕ) (p : Published) → get_elem? all i ≡ some p → IsSmall p
+  small : (i : ℕ) (p : Published) → get_elem? all i ≡ some p → IsSmallIn all p
 
 -- no other seat knows of the idle copy
 other_knows : (m n : ℕ) (all more : List Published) (us ws : List ℕ) (u : Knows) → m ≤ n → IsPrefix all more → Known m all us u → (u.owner ≡ true → ⊥)
@@ -184,7 +182,6 @@ placed s id n v w all ws l at own wide now later grown good mine =
       low = g.low;
       count = g.count;
       whole = g.whole;
-      zero = g.zero;
       small = g.small;
       known = view_set (λ _ u. Known (get_or ws 0 0) all ws u) id w s.views
           (λ j u apart e. other_knows (sequence s) (get_or ws 0 0) l.all all s.words ws u up grown (l.known j u e) (λ o. apart (l.one_owner j u e o ∙ sym mine_too)))
@@ -197,7 +194,7 @@ placed s id n v w all ws l at own wide now later grown good mine =
 holds_set : (ws : List ℕ) (i x j : ℕ) (p : Published) → j ≢ i → (j + 1) ≢ i → Holds ws j p → Holds (set ws i x) j p
 holds_set ws i x j p first second h = record {
   cyc = get_or-set_other ws i j x 0 first ∙ h.cyc;
-  ns = subst (IsWordOf p.ns) (sym (get_or-set_other ws i (j + 1) x 0 second)) h.ns;
+  ns = subst (IsBitsOf p.ns) (sym (get_or-set_other ws i (j + 1) x 0 second)) h.ns;
 }
 
 -- words stand where they stood, and one more stands behind them
@@ -244,7 +241,6 @@ puts slots id i x me own is few s l homes at fits =
             low = l.low;
             count = l.count;
             whole = λ p e. holds_set s.words i x (used n) p first second (l.whole p e);
-            zero = l.zero;
             small = l.small;
           })
           (record {
@@ -267,14 +263,14 @@ puts slots id i x me own is few s l homes at fits =
 -- ---- the owner's raises of the sequence
 
 -- two words that were written are a record
-holds_written : (ws : List ℕ) (j word : ℕ) (p : Published) → Stands ws j (p.cyc ∷ word ∷ []) → IsWordOf p.ns word → Holds ws j p
+holds_written : (ws : List ℕ) (j word : ℕ) (p : Published) → Stands ws j (p.cyc ∷ word ∷ []) → IsBitsOf p.ns word → Holds ws j p
 holds_written ws j word p h ns =
     let first : get_or ws (j + 0) 0 ≡ p.cyc = h 0 (omega arith) in
     let second : get_or ws (j + 1) 0 ≡ word = h 1 (omega arith) in
-    record { cyc = ap (λ i. get_or ws i 0) (omega arith) ∙ first; ns = subst (IsWordOf p.ns) (sym second) ns }
+    record { cyc = ap (λ i. get_or ws i 0) (omega arith) ∙ first; ns = subst (IsBitsOf p.ns) (sym second) ns }
 
 -- after a raise the idle copy is the one that is used
-raised_copy : (ws : List ℕ) (n word : ℕ) (p : Published) (wrote : List ℕ) → wrote ≡ p.cyc ∷ word ∷ [] → IsWordOf p.ns word → Stands ws (idle n) wrote
+raised_copy : (ws : List ℕ) (n word : ℕ) (p : Published) (wrote : List ℕ) → wrote ≡ p.cyc ∷ word ∷ [] → IsBitsOf p.ns word → Stands ws (idle n) wrote
     → Holds (set ws 0 (n + 1)) (used (n + 1)) p
 raised_copy ws n word p wrote is ns h =
     let swapped : used (n + 1) ≡ idle n = omega arith in
@@ -286,15 +282,27 @@ raised_copy ws n word p wrote is ns h =
 pub stands_none : (ws : List ℕ) (j : ℕ) → Stands ws j []
 stands_none ws j k low = absurd (omega arith)
 
--- record 0 stays where a record is added
-zero_stays : (all : List Published) (p q : Published) → 0 < length all → ((z : Published) → get_elem? all 0 ≡ some z → z.ns ≡ pos 0)
-    → get_elem? (all ++ p ∷ []) 0 ≡ some q → q.ns ≡ pos 0
-zero_stays all p q some_there first e =
-    let z = at_within all 0 some_there in
-    let there = prefix_at all (all ++ p ∷ []) 0 z.0 (prefix_more all (p ∷ [])) z.1 in
-    subst (λ (x : Published). x.ns ≡ pos 0) (at_once (all ++ p ∷ []) 0 z.0 q there e) (first z.0 z.1)
+-- record 0 is the first of the records and of all that go on from them
+pub small_by : (records updates : List Published) (zero p : Published) → IsPrefix records (zero ∷ updates) → p.cyc ≤ 41 * 2 ^ 42
+    → IsFrom0To (46 * 2 ^ 52) (above p.ns zero.ns) → IsSmallIn records p
+small_by records updates zero p begins cyc ns = record {
+  cyc = cyc;
+  ns = λ z e.
+      let there = prefix_at records (zero ∷ updates) 0 z begins e in
+      subst (λ (x : Published). IsFrom0To (46 * 2 ^ 52) (above p.ns x.ns)) (some-injective zero z there) ns;
+}
 
-pub publishes : (slots id : ℕ) (p : Published) (me : Me (Unit {0}) Knows) → IsWritten p me.0 → 1 ≤ me.0.left → me.0.seen % 2 ≡ 0 → IsSmall p
+-- so it stays where a record is added
+pub small_more : (records : List Published) (p q : Published) → 0 < length records → IsSmallIn records q → IsSmallIn (records ++ p ∷ []) q
+small_more records p q some_there small = record {
+  cyc = small.cyc;
+  ns = λ zero e.
+      let z = at_within records 0 some_there in
+      let there = prefix_at records (records ++ p ∷ []) 0 z.0 (prefix_more records (p ∷ [])) z.1 in
+      subst (λ (x : Published). IsFrom0To (46 * 2 ^ 52) (above q.ns x.ns)) (at_once (records ++ p ∷ []) 0 z.0 zero there e) (small.ns z.0 z.1);
+}
+
+pub publishes : (slots id : ℕ) (p : Published) (me : Me (Unit {0}) Knows) → IsWritten p me.0 → 1 ≤ me.0.left → me.0.seen % 2 ≡ 0 → IsSmallIn me.0.records p
     → Allows Latched slots id me 0 (λ n. (n + 1) % 2 ^ 64) (λ _ after. after ≡ (knows_published p me.0, me.1))
 publishes slots id p me written left even small s l homes at fits =
     let n = sequence s in
@@ -305,6 +313,7 @@ publishes slots id p me written left even small s l homes at fits =
     let more = l.all ++ p ∷ [] in
     let ends : length l.all ≡ number (n + 1) = omega (arith, l.count, evens) in
     let room : 0 < length s.words = omega (arith, l.wide) in
+    let zero_there : 0 < length l.all = omega (arith, l.count) in
     let w = knows_published p me.0 in (
       w,
       keeps,
@@ -316,8 +325,10 @@ publishes slots id p me written left even small s l homes at fits =
             count = omega (arith, length-append l.all (p ∷ []), ends);
             whole = λ q e. subst (λ x. Holds (set s.words 0 (n + 1)) (used (n + 1)) x) (at_end l.all p q (number (n + 1)) ends e)
                 (raised_copy s.words n written.word p me.0.wrote written.wrote written.ns o.wrote);
-            zero = λ q e. zero_stays l.all p q (omega (arith, l.count)) l.zero e;
-            small = λ i q e. ⊎_elim (λ (old : get_elem? l.all i ≡ some q). l.small i q old) (λ (new : p ≡ q). subst IsSmall new small) (at_snoc l.all p q i e);
+            small = λ i q e. ⊎_elim
+                (λ (old : get_elem? l.all i ≡ some q). small_more l.all p q zero_there (l.small i q old))
+                (λ (new : p ≡ q). subst (IsSmallIn more) new (small_more l.all p p zero_there (subst (λ rs. IsSmallIn rs p) o.records small)))
+                (at_snoc l.all p q i e);
           })
           (record {
             begun = omega (arith, k.begun);
@@ -360,7 +371,6 @@ settles slots id p me written last odd s l homes at fits =
             whole = λ q e. subst (λ x. Holds (set s.words 0 (n + 1)) (used (n + 1)) x)
                 (at_end last.0 p q (number (n + 1)) ends (subst (λ rs. get_elem? rs (number (n + 1)) ≡ some q) all_is e))
                 (raised_copy s.words n written.word p me.0.wrote written.wrote written.ns o.wrote);
-            zero = l.zero;
             small = l.small;
           })
           (record {

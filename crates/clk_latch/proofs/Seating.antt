@@ -1,5 +1,5 @@
 -- The first seat, splits and joins keep the rule.
-use Rattle.std.proofs.Common.{◌≡◌, ◌≢◌, ℕ, zero, suc, ◌+◌, ◌≤◌, Bool, true, false, cond, not, ◌||◌, ◌&&◌, leb, max, pos, List, [], ◌∷◌, length, set, refl, sym, ap, ◌∙◌, subst, ◌⊎◌, ⊎_elim, inl, inr, arith}
+use Rattle.std.proofs.Common.{◌≡◌, ◌≢◌, ℕ, zero, suc, ◌+◌, ◌≤◌, Bool, true, false, cond, not, ◌||◌, ◌&&◌, leb, max, List, [], ◌∷◌, length, set, refl, sym, ap, ◌∙◌, subst, ◌⊎◌, ⊎_elim, inl, inr, arith}
 use Rattle.std.proofs.lemmas.Bool.{leb-true, cases_Bool, false_from_ne_true}
 use Rattle.std.proofs.lemmas.Bool.Decides.{nat_tests}
 use mathlib.Core.Option.{some, some-injective, some-ne-none}
@@ -7,10 +7,10 @@ use mathlib.Core.List.{IsPrefix}
 use lib.ListN.{get_elem?}
 use Rattle.atomic_table.specs.Table.{Splits, Joins, opening}
 use Rattle.atomic_table.proofs.Lists.{at_set, at_snoc}
-use Rattle.clk_num.specs.Biased.{IsWordOf}
+use Rattle.clk_num.specs.Wrapping.{IsBitsOf}
 use Rattle.clk_machine.specs.declared.reading.Published.{Published}
 use Rattle.clk_latch.specs.declared.rule.Knows.{Knows}
-use Rattle.clk_latch.specs.Kept.{sequence, idle, Holds, IsSmall, Known, Latched, knows_first, knows_reader, knows_nothing, first_stays, stays_beside, knows_both}
+use Rattle.clk_latch.specs.Kept.{sequence, idle, Holds, IsSmallIn, Known, Latched, knows_first, knows_reader, knows_nothing, first_stays, stays_beside, knows_both}
 use Rattle.clk_latch.specs.Calls.{Joins as Merges}
 use Rattle.clk_latch.specs.Seated.{epoch_of}
 use Rattle.clk_latch.proofs.Prefixes.{prefix_self, prefix_length}
@@ -33,9 +33,9 @@ alone : {A : Type 0} (P : ℕ → A → Type 0) (a : A) → P 0 a → (j : ℕ) 
 alone P a here zero b e = subst (P 0) (some-injective a b e) here
 alone P a here (suc j) b e = absurd (some-ne-none b (sym e))
 
-pub starts : (r : Published) (updates word : ℕ) → updates ≤ 1024 → IsWordOf r.ns word → r.ns ≡ pos 0 → IsSmall r
+pub starts : (r : Published) (updates word : ℕ) → updates ≤ 1024 → IsBitsOf r.ns word → IsSmallIn (r ∷ []) r
     → Latched (opening (0 ∷ r.cyc ∷ word ∷ 0 ∷ 0 ∷ []) [] (knows_first r updates))
-starts r updates word few ns none_yet small =
+starts r updates word few ns small =
     let ws : List ℕ = 0 ∷ r.cyc ∷ word ∷ 0 ∷ 0 ∷ [] in
     record {
       all = r ∷ [];
@@ -43,8 +43,7 @@ starts r updates word few ns none_yet small =
       low = omega arith;
       count = refl;
       whole = λ p e. subst (Holds ws 1) (some-injective r p e) (record { cyc = refl; ns = ns });
-      zero = λ p e. subst (λ (x : Published). x.ns ≡ pos 0) (some-injective r p e) none_yet;
-      small = alone (λ _ p. IsSmall p) r small;
+      small = alone (λ _ p. IsSmallIn (r ∷ []) p) r small;
       known = alone (λ _ v. Known 0 (r ∷ []) ws v) (knows_first r updates) (first_known r updates ws few);
       owner = 0;
       one_owner = alone (λ j v. v.owner ≡ true → j ≡ 0) (knows_first r updates) (λ _. refl);
@@ -75,7 +74,6 @@ splits id v s l at =
       low = l.low;
       count = l.count;
       whole = l.whole;
-      zero = l.zero;
       small = l.small;
       known = λ j u e. ⊎_elim
           (λ (old : get_elem? views j ≡ some u). old_known j u old)
@@ -282,7 +280,6 @@ joins id other v w s l at apart there =
       low = l.low;
       count = l.count;
       whole = l.whole;
-      zero = l.zero;
       small = l.small;
       known = view_set (λ _ u. Known n l.all s.words u) other knows_nothing views
           (λ j u _ e. view_set (λ _ x. Known n l.all s.words x) id (knows_both v w) s.views (λ i x _ f. l.known i x f) both j u e)

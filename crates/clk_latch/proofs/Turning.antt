@@ -1,10 +1,8 @@
 -- A turn loads both words of a record, or the sequence is greater then.
-use Rattle.std.proofs.Common.{◌≡◌, ℕ, ◌+◌, ◌*◌, ◌%◌, ◌^◌, ◌<◌, ◌≤◌, ℤ, List, get_or, refl, sym, ap, ◌∙◌, subst, arith}
-use Rattle.std.proofs.lemmas.Int.{ints}
+use Rattle.std.proofs.Common.{◌≡◌, ℕ, ◌+◌, ◌*◌, ◌%◌, ◌≤◌, ℤ, List, get_or, refl, sym, ap, ◌∙◌, subst, arith}
 use lib.ListN.{get_elem?}
 use Rattle.atomic_table.specs.Table.{Me, Step}
-use Rattle.clk_num.specs.Biased.{IsWordOf}
-use Rattle.clk_machine.specs.Laws.{IsFrom0To}
+use Rattle.clk_num.specs.Wrapping.{IsBitsOf}
 use Rattle.clk_machine.specs.declared.reading.Published.{Published}
 use Rattle.clk_latch.specs.declared.rule.Knows.{Knows}
 use Rattle.clk_latch.specs.declared.turn.Turn.{Turn}
@@ -22,7 +20,7 @@ reads_cyc at n same ws p h =
 pub reads_ns : (at n : ℕ) → at ≡ n → (ws : List ℕ) (p : Published) → Holds ws (used at) p → IsNs p (get_or ws (1 + 2 * (n % 2) + 1) 0)
 reads_ns at n same ws p h =
     let place : used at + 1 ≡ 1 + 2 * (n % 2) + 1 = omega (arith, same) in
-    subst (λ i. IsWordOf p.ns (get_or ws i 0)) place h.ns
+    subst (λ i. IsBitsOf p.ns (get_or ws i 0)) place h.ns
 
 -- ---- a turn
 
@@ -43,7 +41,6 @@ has_turn st a b c d n x y began first second =
       begun = omega (arith, b_seen, c_seen, first.later, second.later);
       low = began.low;
       count = began.count;
-      zero = began.zero;
       small = began.small;
       cyc = λ still. cyc_whole (omega (arith, c_seen, second.later, still));
       ns = ns_whole;
@@ -51,21 +48,8 @@ has_turn st a b c d n x y began first second =
 
 -- ---- a turn that closed at its own sequence
 
--- the word of small ns
-pub word_small : (ns : ℤ) (word : ℕ) → IsFrom0To (46 * 2 ^ 52) ns → IsWordOf ns word → word < 2 ^ 63
-word_small ns word small is = omega (arith, ints, small.0, small.1, is)
-
--- the word of the turn's record, where the sequence stayed
-pub turn_word : (v : Knows) (t : Turn) → HasTurn v t → v.seen ≤ v.at → t.ns < 2 ^ 63
-turn_word v t h still =
-    let p = at_within v.records (number v.at) (omega (arith, h.count)) in
-    word_small p.0.ns t.ns (h.small p.0 p.1).ns (h.ns still p.0 p.1)
-
-one_value : (x y : ℤ) (word : ℕ) → IsWordOf x word → IsWordOf y word → x ≡ y
-one_value x y word e f = omega (arith, ints, e, f)
-
 pub has_current : (v k : Knows) (t : Turn) (n rec : ℕ) (ns : ℤ) → HasTurn v t → k ≡ knows_later n v → v.seen ≤ n → n ≡ t.sequence → rec ≡ number t.sequence
-    → IsWordOf ns t.ns → HasCurrent k (record { rec = rec; cyc = t.cyc; ns = ns })
+    → IsBitsOf ns t.ns → HasCurrent k (record { rec = rec; cyc = t.cyc; ns = ns })
 has_current v k t n rec ns h is later closed named word =
     let still : v.seen ≤ v.at = omega (arith, h.at, closed, later) in
     let rec_is : rec ≡ number v.at = named ∙ ap number (sym h.at) in
@@ -74,8 +58,7 @@ has_current v k t n rec ns h is later closed named word =
       record_is = p.0;
       there = ap (λ i. get_elem? v.records i) rec_is ∙ p.1;
       cyc = h.cyc still p.0 p.1;
-      ns = one_value p.0.ns ns t.ns (h.ns still p.0 p.1) word;
+      ns = sym (h.ns still p.0 p.1) ∙ word;
       small = h.small p.0 p.1;
       count = h.count ∙ ap (λ i. i + 1) (sym rec_is);
-      zero = h.zero;
     })

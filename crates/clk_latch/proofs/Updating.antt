@@ -3,6 +3,7 @@ use Rattle.std.proofs.Common.{◌≡◌, ℕ, ◌+◌, ◌-◌, ◌*◌, ◌^◌
 use mir.Syntax.{w64}
 use mir.Val.{to_z, of_z}
 use Rattle.std.specs.List.{All}
+use mathlib.Core.List.{IsPrefix}
 use Rattle.std.proofs.Math.Seq.{get_or-append_seam}
 use Rattle.std.proofs.lemmas.List.Sums.{sum_by-cons, sum_by_push}
 use Rattle.std.proofs.lemmas.List.Elements.{All-nil, All-head, All-tail, All-push, All-weaker}
@@ -11,11 +12,13 @@ use Rattle.std.proofs.lemmas.Bool.Decides.{nat_tests}
 use Rattle.clk_base.specs.declared.block.Block.{Block}
 use Rattle.clk_base.specs.Blocks.{end_of, once_below, in_block, times_in, AllEndBy}
 use Rattle.std.proofs.lemmas.Int.{ints}
-use Rattle.clk_num.specs.Range.{IsNear}
+use Rattle.clk_num.specs.Range.{IsFrom0To, IsNear}
+use Rattle.clk_num.specs.Wrapping.{above}
+use Rattle.clk_num.proofs.Wraps.{wrapped}
 use Rattle.clk_machine.specs.Plan.{Plan, count_of, cpu_count}
 use Rattle.clk_machine.specs.Time.{counter_at}
-use Rattle.clk_machine.specs.Records.{record_zero, raw_by, IsNextRecord, AreNextRecords, AreRecords}
-use Rattle.clk_machine.specs.Laws.{IsAdjusted, AreInOrder, IsFrom0To}
+use Rattle.clk_machine.specs.Records.{above_base, record_zero, raw_by, IsNextRecord, AreNextRecords, AreRecords}
+use Rattle.clk_machine.specs.Laws.{IsAdjusted, AreInOrder}
 use Rattle.clk_machine.proofs.Readings.{counters_are_small, records_are_small}
 use Rattle.clk_machine.specs.declared.reading.Published.{Published}
 use Rattle.clk_latch.specs.declared.rule.Knows.{Knows}
@@ -24,9 +27,11 @@ use Rattle.atomic_table.specs.declared.shared.Seat.{Seat}
 use Rattle.clk_ticket.specs.Time.{Time, after_draw}
 use Rattle.clk_latch.specs.Epoch.{Place}
 use Rattle.clk_latch.specs.Calls.{AreDrawn, last_of, IsRecordZero, Updates}
-use Rattle.clk_latch.specs.Kept.{IsSmall, knows_first, knows_published, knows_settled}
+use Rattle.clk_latch.specs.Kept.{IsSmallIn, knows_first, knows_published, knows_settled}
 use Rattle.clk_latch.specs.Seated.{AreUpdatesInOrder, IsOwner, IsSeated, place_of, epoch_of}
 use Rattle.clk_latch.proofs.Converting.{sum_stays}
+use Rattle.clk_latch.proofs.Keeping.{small_by, small_more}
+use Rattle.clk_latch.proofs.Prefixes.{prefix_self, prefix_more}
 
 -- ---- tickets
 
@@ -120,21 +125,21 @@ in_order m records updates is order =
     subst (AreInOrder 0) (sym is) (omega arith, omega arith, subst AreUpdatesInOrder is order)
 
 pub next_small : (m : Plan) (cpu : ℕ) (adjust : ℤ) (records : List Published) (p : Published) → IsAdjusted m cpu adjust → AreRecords m cpu adjust (records ++ p ∷ [])
-    → AreUpdatesInOrder (records ++ p ∷ []) → p.ticket < 2 ^ 24 → p.cyc ≡ counter_at m cpu adjust p.ticket → IsSmall p
+    → AreUpdatesInOrder (records ++ p ∷ []) → p.ticket < 2 ^ 24 → p.cyc ≡ counter_at m cpu adjust p.ticket → IsSmallIn records p
 next_small m cpu adjust records p a are order bound shows =
     let each = records_are_small m cpu adjust (records ++ p ∷ []) a are (in_order m (records ++ p ∷ []) are.updates are.all order) in
     let there : length records < length (records ++ p ∷ []) = omega (arith, length-append records (p ∷ [])) in
-    record {
-      cyc = subst (λ n. n ≤ 41 * 2 ^ 42) (sym shows) (counters_are_small m cpu adjust p.ticket a bound);
-      ns = subst (λ (x : Published). IsFrom0To (46 * 2 ^ 52) x.ns) (get_or-append_seam records p [] p) (each (length records) p there);
-    }
+    small_by records are.updates (record_zero m) p
+    (subst (IsPrefix records) are.all (prefix_more records (p ∷ [])))
+    (subst (λ n. n ≤ 41 * 2 ^ 42) (sym shows) (counters_are_small m cpu adjust p.ticket a bound))
+    (subst (λ (x : Published). IsFrom0To (46 * 2 ^ 52) (above_base m x.ns)) (get_or-append_seam records p [] p) (each (length records) p there))
 
 -- ---- the owner's seat
 
 some_same : (x y : Published) → Some x ≡ Some y → x ≡ y
 some_same x y e = cc
 
-pub first_owner : (r : Published) (updates : ℕ) → updates ≤ 1024 → r.rec ≡ 0 → IsSmall r → IsOwner (Some r) (knows_first r updates)
+pub first_owner : (r : Published) (updates : ℕ) → updates ≤ 1024 → r.rec ≡ 0 → IsSmallIn (r ∷ []) r → IsOwner (Some r) (knows_first r updates)
 first_owner r updates few named small = record {
   last = r;
   hand = refl;
@@ -148,7 +153,7 @@ first_owner r updates few named small = record {
   idle = refl;
 }
 
-pub still_owner : (last p : Published) (current : Option Published) (v : Knows) → IsOwner current v → current ≡ Some last → p.rec ≡ last.rec + 1 → IsSmall p
+pub still_owner : (last p : Published) (current : Option Published) (v : Knows) → IsOwner current v → current ≡ Some last → p.rec ≡ last.rec + 1 → IsSmallIn v.records p
     → AreUpdatesInOrder (v.records ++ p ∷ []) → 1 ≤ v.left → IsOwner (Some p) (knows_settled (knows_published p v))
 still_owner last p current v o hand named small order left =
     let same : o.last ≡ last = some_same o.last last (sym o.hand ∙ hand) in
@@ -158,7 +163,7 @@ still_owner last p current v o hand named small order left =
       before = v.records;
       records = refl;
       number = omega (arith, length-append v.records (p ∷ []), named, o.number, ap (λ (x : Published). x.rec) same);
-      small = small;
+      small = small_more v.records p p (omega (arith, o.even)) small;
       order = order;
       even = omega (arith, length-append v.records (p ∷ []), o.even);
       few = omega (arith, o.few, left);
@@ -167,17 +172,21 @@ still_owner last p current v o hand named small order left =
 
 -- ---- record 0
 
-pub zero_small : (r : Published) → IsRecordZero r → IsSmall r
+-- a value is not above itself
+none_above : (x : ℤ) → IsFrom0To (46 * 2 ^ 52) (above x x)
+none_above x = (omega (arith, ints, wrapped), omega (arith, ints, wrapped))
+
+pub zero_small : (r : Published) → IsRecordZero r → IsSmallIn (r ∷ []) r
 zero_small r z =
     let m = z.machine in
     let few = z.limits.ranges.cpus in
     let each = z.limits.ranges.cpu_each in
     let near : IsNear 47 (pos 0) = (omega (arith, ints), omega (arith, ints)) in
     let there : 0 < cpu_count m = omega (arith, few.1, ap count_of each) in
-    record {
-      cyc = subst (λ n. n ≤ 41 * 2 ^ 42) (sym z.cyc) (counters_are_small m 0 (pos 0) 0 (record { limits = z.limits; there = there; near = near }) (omega arith));
-      ns = subst (IsFrom0To (46 * 2 ^ 52)) (sym z.ns) (omega (arith, ints), omega (arith, ints));
-    }
+    small_by (r ∷ []) [] r r
+    (prefix_self (r ∷ []))
+    (subst (λ n. n ≤ 41 * 2 ^ 42) (sym z.cyc) (counters_are_small m 0 (pos 0) 0 (record { limits = z.limits; there = there; near = near }) (omega arith)))
+    (none_above r.ns)
 
 -- ---- an update
 
@@ -185,7 +194,7 @@ pub record IsUpdate (m : Plan) (cpu : ℕ) (adjust : ℤ) (v : Knows) (p : Publi
   pub next : IsNextRecord m cpu adjust (last_of (record_zero m) v.records) p
   pub number : p.rec ≡ length v.records
   pub records : AreRecords m cpu adjust (v.records ++ p ∷ [])
-  pub small : IsSmall p
+  pub small : IsSmallIn v.records p
   pub order : AreUpdatesInOrder (v.records ++ p ∷ [])
   pub drawn : AreDrawn (bs ++ (record { first = p.ticket; count = 1 }) ∷ []) (v.records ++ p ∷ [])
 
@@ -217,9 +226,9 @@ pub record IsMade (m : Plan) (cpu : ℕ) (adjust : ℤ) (s : Place) (current : O
 pub is_made : (m : Plan) (cpu : ℕ) (adjust : ℤ) (s : Place) (seat : Seat (Unit {0}) Knows) (current : Option Published) (last : Published) (time : Time) (ticket cyc : ℕ) (ns : ℤ)
     → place_of seat ≡ s → IsSeated current seat → s.epoch.owner ≡ true → current ≡ Some last → IsAdjusted m cpu adjust
     → AreRecords m cpu adjust s.epoch.records → AreDrawn time.blocks s.epoch.records → AllEndBy time.seen time.blocks → time.seen ≤ ticket → ticket + 1 ≤ 2 ^ 24
-    → cyc ≡ counter_at m cpu adjust ticket → ns ≡ raw_by m last cyc → IsFrom0To (11 * 2 ^ 55) ns
+    → cyc ≡ counter_at m cpu adjust ticket → ns ≡ raw_by m last cyc
     → IsMade m cpu adjust s current seat.me.0 (record { rec = last.rec + 1; ticket = ticket; cyc = cyc; ns = to_z w64 (of_z w64 ns) }) time.blocks
-is_made m cpu adjust s seat current last time ticket cyc ns view seated right hand a are drawn ends later bound shows value small =
+is_made m cpu adjust s seat current last time ticket cyc ns view seated right hand a are drawn ends later bound shows value =
     let own : seat.me.0.owner ≡ true = ap (λ (x : Place). x.epoch.owner) view ∙ right in
     let owner = seated.owner own in
     let mine = subst (λ (x : Place). AreRecords m cpu adjust x.epoch.records) (sym view) are in
@@ -229,7 +238,7 @@ is_made m cpu adjust s seat current last time ticket cyc ns view seated right ha
       owner = owner;
       left = ap (λ (x : Place). x.epoch.left) view;
       update = is_update m cpu adjust seat.me.0 current last (record { rec = last.rec + 1; ticket = ticket; cyc = cyc; ns = to_z w64 (of_z w64 ns) }) time.blocks time.seen
-          owner hand a mine among ends later (omega (arith, bound)) refl shows (sum_stays ns small ∙ value);
+          owner hand a mine among ends later (omega (arith, bound)) refl shows (sum_stays ns _ value ∙ value);
     }
 
 -- what an update does to the seat

@@ -1,13 +1,14 @@
 -- What each call does to a seat, whatever latch it belongs to.
-use Rattle.std.specs.Prelude.{◌≡◌, ℕ, ◌+◌, ◌-◌, ◌*◌, ◌^◌, ◌<◌, max, true, false, ◌||◌, ◌&&◌, ℤ, pos, List, [], ◌∷◌, ◌++◌, length, slice_index_or}
+use Rattle.std.specs.Prelude.{◌≡◌, ℕ, ◌+◌, ◌-◌, ◌*◌, ◌^◌, ◌<◌, max, true, false, ◌||◌, ◌&&◌, ℤ, List, [], ◌∷◌, ◌++◌, length, slice_index_or}
 use Rattle.std.specs.List.{All}
 use mathlib.Core.List.{IsPrefix}
 use Rattle.clk_base.specs.declared.block.Block.{Block}
 use Rattle.clk_base.specs.Blocks.{times_in}
 use Rattle.clk_ticket.specs.Time.{Time, Draws}
+use Rattle.clk_num.specs.Range.{IsFrom0To}
+use Rattle.clk_num.specs.Wrapping.{above}
 use Rattle.clk_machine.specs.Plan.{Plan}
 use Rattle.clk_machine.specs.Limits.{IsWithinLimits}
-use Rattle.clk_machine.specs.Laws.{IsFrom0To}
 use Rattle.clk_machine.specs.Records.{record_zero, IsNextRecord, AreRecords, IsRightReading}
 use Rattle.clk_machine.specs.declared.reading.RawReading.{RawReading}
 use Rattle.clk_machine.specs.declared.reading.Published.{Published}
@@ -42,9 +43,8 @@ pub record Reads (m : Plan) (cpu : ℕ) (adjust : ℤ) (before after : Epoch) (r
   -- the owner has seen every record, so it sees no further one
   pub owner : before.owner ≡ true → after.records ≡ before.records
   pub kept : (after.owner ≡ before.owner) × (after.left ≡ before.left)
-  -- record 0 has 0 ns
-  pub zero : (d : Published) → (slice_index_or after.records 0 d).ns ≡ pos 0
-  pub bound : IsFrom0To (11 * 2 ^ 55) r.ns
+  -- its ns are none below those of record 0, and not far above them
+  pub bound : (d : Published) → IsFrom0To (11 * 2 ^ 55) (above r.ns (slice_index_or after.records 0 d).ns)
 
 -- the last of some records
 abbrev pub last_of : Published → List Published → Published

@@ -1,11 +1,11 @@
 -- The rule of a latch over words, and what each step tells.
-use Rattle.std.specs.Prelude.{◌≡◌, ℕ, ◌+◌, ◌-◌, ◌*◌, ◌/◌, ◌%◌, ◌^◌, ◌<◌, ◌≤◌, nat_le, Bool, true, false, not, ◌||◌, ◌&&◌, if◌then◌else◌, pos, List, [], ◌∷◌, ◌++◌, length, slice_index}
+use Rattle.std.specs.Prelude.{◌≡◌, ℕ, ◌+◌, ◌-◌, ◌*◌, ◌/◌, ◌%◌, ◌^◌, ◌<◌, ◌≤◌, nat_le, Bool, true, false, not, ◌||◌, ◌&&◌, if◌then◌else◌, List, [], ◌∷◌, ◌++◌, length, slice_index}
 use mathlib.Core.Option.{some}
 use mathlib.Core.List.{IsPrefix}
 use lib.ListN.{get_elem?}
 use Rattle.atomic_table.specs.Table.{State, Me, Step}
-use Rattle.clk_num.specs.Biased.{IsWordOf}
-use Rattle.clk_machine.specs.Laws.{IsFrom0To}
+use Rattle.clk_num.specs.Range.{IsFrom0To}
+use Rattle.clk_num.specs.Wrapping.{above, IsBitsOf}
 use Rattle.clk_machine.specs.declared.reading.Published.{Published}
 use Rattle.clk_latch.specs.declared.rule.Knows.{Knows}
 
@@ -27,16 +27,16 @@ idle n = 3 - 2 * (n % 2)
 -- the copy from the word i on holds a record
 pub record Holds (words : List ℕ) (i : ℕ) (p : Published) : Type 0 where
   pub cyc : slice_index words i ≡ p.cyc
-  pub ns : IsWordOf p.ns (slice_index words (i + 1))
+  pub ns : IsBitsOf p.ns (slice_index words (i + 1))
 
 -- the words from i on are xs
 abbrev pub Stands : List ℕ → ℕ → List ℕ → Type 0
 Stands words i xs = (k : ℕ) → k < length xs → slice_index words (i + k) ≡ slice_index xs k
 
--- a record's counter value and ns are those of a machine within its limits
-pub record IsSmall (p : Published) : Type 0 where
+-- a record's counter value is that of a machine within its limits, and so is how far its ns are above those of record 0
+pub record IsSmallIn (records : List Published) (p : Published) : Type 0 where
   pub cyc : p.cyc ≤ 41 * 2 ^ 42
-  pub ns : IsFrom0To (46 * 2 ^ 52) p.ns
+  pub ns : (zero : Published) → get_elem? records 0 ≡ some zero → IsFrom0To (46 * 2 ^ 52) (above p.ns zero.ns)
 
 -- what the owner knows of the words: it alone changes them
 pub record Owns (n : ℕ) (all : List Published) (words : List ℕ) (v : Knows) : Type 0 where
@@ -64,8 +64,7 @@ pub record Latched (s : State (Unit {0}) Knows) : Type 0 where
   -- the last one is current, and the copy that is used holds it whole
   pub count : length all ≡ number (sequence s) + 1
   pub whole : (p : Published) → get_elem? all (number (sequence s)) ≡ some p → Holds s.words (used (sequence s)) p
-  pub zero : (p : Published) → get_elem? all 0 ≡ some p → p.ns ≡ pos 0
-  pub small : (i : ℕ) (p : Published) → get_elem? all i ≡ some p → IsSmall p
+  pub small : (i : ℕ) (p : Published) → get_elem? all i ≡ some p → IsSmallIn all p
   pub known : (j : ℕ) (v : Knows) → get_elem? s.views j ≡ some v → Known (sequence s) all s.words v
   -- one seat has the owner's right
   pub owner : ℕ
@@ -164,8 +163,7 @@ pub record Began (st : Step (Unit {0})) (before : Me (Unit {0}) Knows) (found : 
   pub later : before.0.seen ≤ found
   pub low : found ≤ 2048
   pub count : length records ≡ number found + 1
-  pub zero : (p : Published) → get_elem? records 0 ≡ some p → p.ns ≡ pos 0
-  pub small : (p : Published) → get_elem? records (number found) ≡ some p → IsSmall p
+  pub small : (p : Published) → get_elem? records (number found) ≡ some p → IsSmallIn records p
   pub owner : before.0.owner ≡ true → (records ≡ before.0.records) × (found ≡ before.0.seen)
 
 -- a load of a word of a copy: the field of the turn's record, or the sequence is greater now
@@ -183,7 +181,7 @@ abbrev pub IsCyc : Published → ℕ → Type 0
 IsCyc p x = p.cyc ≡ x
 
 abbrev pub IsNs : Published → ℕ → Type 0
-IsNs p x = IsWordOf p.ns x
+IsNs p x = IsBitsOf p.ns x
 
 -- the load of the sequence that closes a turn
 pub record Closed (st : Step (Unit {0})) (before : Me (Unit {0}) Knows) (found : ℕ) (after : Me (Unit {0}) Knows) : Type 0 where

@@ -4,7 +4,7 @@ use Rattle.atomic_table.specs.declared.shared.Seat.{Seat}
 use Rattle.clk_machine.specs.Laws.{AreInOrder}
 use Rattle.clk_machine.specs.declared.reading.Published.{Published}
 use Rattle.clk_latch.specs.Epoch.{Epoch, Place}
-use Rattle.clk_latch.specs.Kept.{IsSmall}
+use Rattle.clk_latch.specs.Kept.{IsSmallIn}
 use Rattle.clk_latch.specs.declared.rule.Knows.{Knows}
 
 -- what the seat's view says
@@ -26,7 +26,7 @@ pub record IsOwner (current : Option Published) (v : Knows) : Type 0 where
   pub before : List Published
   pub records : v.records ≡ before ++ last ∷ []
   pub number : last.rec + 1 ≡ length v.records
-  pub small : IsSmall last
+  pub small : IsSmallIn v.records last
   pub order : AreUpdatesInOrder v.records
   pub even : v.seen + 2 ≡ 2 * length v.records
   pub few : v.seen + 2 * v.left ≤ 2048

@@ -1,12 +1,12 @@
 -- What the steps of a reading and of an update do to a view. No public contract cites it.
-use Rattle.std.specs.Prelude.{◌≡◌, ℕ, ◌+◌, ◌*◌, ◌≤◌, true, pos, List, [], ◌∷◌, ◌++◌, length}
+use Rattle.std.specs.Prelude.{◌≡◌, ℕ, ◌+◌, ◌*◌, ◌≤◌, true, List, [], ◌∷◌, ◌++◌, length}
 use mathlib.Core.Option.{some}
 use mathlib.Core.List.{IsPrefix}
 use lib.ListN.{get_elem?}
 use Rattle.atomic_table.specs.Table.{Me}
-use Rattle.clk_num.specs.Biased.{IsWordOf}
+use Rattle.clk_num.specs.Wrapping.{IsBitsOf}
 use Rattle.clk_machine.specs.declared.reading.Published.{Published}
-use Rattle.clk_latch.specs.Kept.{number, IsSmall, IsCyc, IsNs, IsOfTurn}
+use Rattle.clk_latch.specs.Kept.{number, IsSmallIn, IsCyc, IsNs, IsOfTurn}
 use Rattle.clk_latch.specs.declared.rule.Knows.{Knows}
 use Rattle.clk_latch.specs.declared.turn.Turn.{Turn}
 use Rattle.clk_latch.specs.declared.turn.Current.{Current}
@@ -25,8 +25,7 @@ pub record HasTurn (v : Knows) (t : Turn) : Type 0 where
   pub begun : v.at ≤ v.seen
   pub low : v.at ≤ 2048
   pub count : length v.records ≡ number v.at + 1
-  pub zero : (p : Published) → get_elem? v.records 0 ≡ some p → p.ns ≡ pos 0
-  pub small : (p : Published) → get_elem? v.records (number v.at) ≡ some p → IsSmall p
+  pub small : (p : Published) → get_elem? v.records (number v.at) ≡ some p → IsSmallIn v.records p
   pub cyc : v.seen ≤ v.at → IsOfTurn IsCyc v t.cyc
   pub ns : v.seen ≤ v.at → IsOfTurn IsNs v t.ns
 
@@ -36,9 +35,8 @@ pub record HasCurrent (v : Knows) (c : Current) : Type 0 where
   pub there : get_elem? v.records c.rec ≡ some record_is
   pub cyc : record_is.cyc ≡ c.cyc
   pub ns : record_is.ns ≡ c.ns
-  pub small : IsSmall record_is
+  pub small : IsSmallIn v.records record_is
   pub count : length v.records ≡ c.rec + 1
-  pub zero : (p : Published) → get_elem? v.records 0 ≡ some p → p.ns ≡ pos 0
 
 -- a turn of this call was the last to begin, and found that record current
 abbrev pub BeganLast : List ℕ → List ℕ → ℕ → Type 0
@@ -48,7 +46,7 @@ BeganLast before after rec = (between : List ℕ) × (after ≡ (before ++ betwe
 pub record HasWritten (p : Published) (before after : Me (Unit {0}) Knows) : Type 0 where
   pub word : ℕ
   pub is : after ≡ (record before.0 { wrote = p.cyc ∷ word ∷ [] }, before.1)
-  pub ns : IsWordOf p.ns word
+  pub ns : IsBitsOf p.ns word
 
 -- a record may be published: the owner has an update left, and both copies hold its current record
 pub record MayPublish (p : Published) (v : Knows) : Type 0 where
@@ -56,14 +54,14 @@ pub record MayPublish (p : Published) (v : Knows) : Type 0 where
   pub left : 1 ≤ v.left
   pub even : v.seen + 2 ≡ 2 * length v.records
   pub idle : v.wrote ≡ []
-  pub small : IsSmall p
+  pub small : IsSmallIn v.records p
 
 -- the idle copy holds a record, as the owner wrote it
 pub record IsWritten (p : Published) (v : Knows) : Type 0 where
   pub owner : v.owner ≡ true
   pub word : ℕ
   pub wrote : v.wrote ≡ p.cyc ∷ word ∷ []
-  pub ns : IsWordOf p.ns word
+  pub ns : IsBitsOf p.ns word
 
 -- the last of some records
 abbrev pub EndsWith : List Published → Published → Type 0

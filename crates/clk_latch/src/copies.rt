@@ -1,13 +1,13 @@
 //! An update's stores to the words.
 ghost use Rattle.std.specs.Prelude.{◌≡◌, ◌%◌, ◌≤◌, true, []};
-ghost use Rattle.clk_latch.specs.Kept.{idle, IsSmall, knows_published, knows_settled};
+ghost use Rattle.clk_latch.specs.Kept.{idle, IsSmallIn, knows_published, knows_settled};
 ghost use Rattle.clk_latch.specs.Turns.{HasWritten, MayPublish, IsWritten, EndsWith};
 
 use crate::latch::{FIRST_COPY, Latch, SECOND_COPY, SEQUENCE};
 use crate::rule::{Knows, New, Publish, Settle, Write};
 use atomic_table::Seat;
 use clk_machine::Published;
-use clk_num::word_of;
+use clk_num::bits_of;
 use std::marker::Brand;
 
 impl Latch {
@@ -31,12 +31,11 @@ impl Latch {
         requires owner { seat.old.me.0.owner ≡ true }
         requires copy { copy ≡ idle seat.old.me.0.seen }
         requires idle { seat.old.me.0.wrote ≡ [] }
-        requires small { IsSmall new.now }
         ensures own { seat.new.table_id ≡ seat.old.table_id }
         ensures written { HasWritten new.now seat.old.me seat.new.me }
     {
         self.table.shared.store::<Write>(seat, copy, new.cyc);
-        let word = word_of(new.ns);
+        let word = bits_of(new.ns);
         self.table.shared.store::<Write>(seat, copy + 1, word);
     }
 
@@ -47,7 +46,7 @@ impl Latch {
         requires written { IsWritten new.now seat.old.me.0 }
         requires left { 1 ≤ seat.old.me.0.left }
         requires even { seat.old.me.0.seen % 2 ≡ 0 }
-        requires small { IsSmall new.now }
+        requires small { IsSmallIn seat.old.me.0.records new.now }
         ensures own { seat.new.table_id ≡ seat.old.table_id }
         ensures is { seat.new.me ≡ (knows_published new.now seat.old.me.0, seat.old.me.1) }
     {

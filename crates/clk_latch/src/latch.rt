@@ -8,7 +8,7 @@ use crate::rule::{Both, Knows, Learn, Opening, Reader, TwoCopies};
 use crate::seat::LatchSeat;
 use atomic_table::Table;
 use clk_machine::{CpuCounter, Published, RawReading};
-use clk_num::word_of;
+use clk_num::bits_of;
 use clk_ticket::{TicketTable, TimeSeat};
 use std::alloc::{AllocError, Global};
 use std::marker::Model;
@@ -42,7 +42,7 @@ impl Model for Latch {
 }
 
 impl Latch {
-    /// A latch with record 0, for at most 1,024 updates, and the owner's seat. The error is want of memory.
+    /// A latch with record 0 of a machine, for at most 1,024 updates, and the owner's seat. The error is want of memory.
     pub fn new(
         alloc: Global,
         zero: Published,
@@ -53,7 +53,7 @@ impl Latch {
         ensures own { IfOk result (λ made. made.1.latch ≡ made.0) }
         ensures seat { IfOk result (λ made. made.1.epoch ≡ owner_of zero updates) }
     {
-        let ns = word_of(zero.ns);
+        let ns = bits_of(zero.ns);
         let (table, seat) = Table::of_words(
             alloc,
             &[0, zero.cyc, ns, 0, 0],

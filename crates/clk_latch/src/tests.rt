@@ -81,6 +81,7 @@ fn jumping_parts(alloc: Global) -> Result<Parts, AllocError>
 }
 
 // Record 0, for which no ticket is drawn here.
+#[tactic(auto, unfolding(clk_machine::specs::Records::base_of))]
 fn zero_of(machine: &Machine) -> Published
     requires { 0 < cpu_count machine.now }
     ensures zero { result ≡ record_zero machine.now }
@@ -307,8 +308,7 @@ fn ns_by(rt: &impl Abort, machine: &Machine, record: &Published, cyc: u64) -> i6
     let ns = u128::from(delta) * u128::from(rate.mult) >> rate.shift;
     record
         .ns
-        .checked_add(i64::try_from(ns).ok().expect(rt, "few cycles"))
-        .expect(rt, "few ns")
+        .wrapping_add(i64::try_from(ns).ok().expect(rt, "few cycles"))
 }
 
 // The records follow one another from record 0 on.

@@ -6,7 +6,7 @@ ghost use Rattle.clk_latch.specs.Turns.{Went, HasTurn, HasCurrent, BeganLast};
 use crate::latch::{COPY_WORDS, FIRST_COPY, Latch, SEQUENCE};
 use crate::rule::{Begin, Close, Knows, LoadCyc, LoadNs};
 use atomic_table::Seat;
-use clk_num::value_of;
+use clk_num::value_of_bits;
 
 // What a turn found: the sequence, and the words of the copy that was to be used.
 #[derive(Clone, Copy)]
@@ -40,7 +40,7 @@ impl Latch {
                 return Current {
                     rec: turn.sequence.div_ceil(2) as u32,
                     cyc: turn.cyc,
-                    ns: value_of(turn.ns),
+                    ns: value_of_bits(turn.ns),
                 };
             }
         }

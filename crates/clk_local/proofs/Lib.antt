@@ -1,3 +1,4 @@
 pub mod Raising
 pub mod Showing
+pub mod Keeping
 pub mod Spending

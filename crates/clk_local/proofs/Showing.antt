@@ -1,7 +1,7 @@
 -- Lemmas on what calls show: the parts of a raised reading, of a stamp and of a tick, put together.
-use Rattle.std.proofs.Common.{◌≡◌, ℕ, ℤ, ◌≤ℤ◌, true, List, [], ◌∷◌, ◌++◌, sym, ap, ◌∙◌, subst, Some, arith, append_assoc, append-nil}
-use Rattle.std.proofs.lemmas.Int.{ints, clamps}
-use Rattle.clk_num.specs.Clamp.{raise}
+use Rattle.std.proofs.Common.{◌≡◌, ℕ, ℤ, true, List, [], ◌∷◌, ◌++◌, sym, ap, ◌∙◌, subst, Some, arith, append_assoc, append-nil}
+use Rattle.clk_num.specs.Wrapping.{IsNotBelow, raise}
+use Rattle.clk_num.proofs.Heights.{raise_rises}
 use Rattle.clk_words.specs.declared.opening.Start.{Start}
 use Rattle.clk_words.specs.declared.step.Step.{Step}
 use Rattle.clk_words.specs.declared.step.Why.{Why}
@@ -18,33 +18,31 @@ use Rattle.clk_words.specs.Knowing.{IsOwner, StampsAreWhole}
 use Rattle.clk_words.specs.Parts.{gtod_of, raw_of, part_of, last_from}
 use Rattle.clk_words.specs.Rights.{has_number}
 use Rattle.clk_words.specs.Targets.{target}
-use Rattle.clk_words.specs.Told.{Finds, FindsRaw, FindsGtod, stamped}
+use Rattle.clk_words.specs.Told.{Raises, Finds, FindsRaw, FindsGtod, stamped}
 use Rattle.clk_words.proofs.Registers.{put_here, put_else, last_more}
 use Rattle.clk_words.proofs.Turns.{whole_gtod, whole_raw, owner_gtod, owner_raw}
 use Rattle.clk_machine.specs.declared.reading.RawReading.{RawReading}
 use Rattle.clk_latch.specs.Calls.{DrawsTicket, Reads}
 use Rattle.clk_local.specs.declared.events.IdleEvent.{IdleEvent}
-use Rattle.clk_local.specs.declared.raise.Since.{Since}
 use Rattle.clk_local.specs.Context.{Site, Known, MayStamp}
-use Rattle.clk_local.specs.Raising.{FindsPair, Raises, clock_loads, own_step, shown_on, why_of}
+use Rattle.clk_local.specs.Raising.{FindsPair, FindsWhy, own_step, shown_on}
 use Rattle.clk_local.specs.Shows.{ShowsRaised, ShowsStamp, ShowsTicked, ShowsReading, ShowsTick, ShowsIdle}
+use Rattle.clk_local.proofs.Raising.{found_not_below}
 
--- the loads of the pair and then those of the clock word
-pair_loads : (cpu : ℕ) (v pair w : View) (tick_raw tick_gtod : ℤ) (s : Step) → cpu ≡ cpu_of v.kind → s.word ≡ cpu → (f : FindsPair v tick_raw tick_gtod pair) → (r : Raises pair s w)
-    → w.loads ≡ v.loads ++ (record { of = Raw cpu; value = tick_raw }) ∷ (record { of = Gtod cpu; value = tick_gtod }) ∷ clock_loads cpu (r.lost ++ s.old ∷ [])
-pair_loads cpu v pair w tick_raw tick_gtod s here word f r =
+-- the loads of the pair, and no others
+pair_loads : (cpu : ℕ) (v pair w : View) (tick_raw tick_gtod : ℤ) (s : Step) → cpu ≡ cpu_of v.kind → FindsPair v tick_raw tick_gtod pair → Raises pair s w
+    → w.loads ≡ v.loads ++ (record { of = Raw cpu; value = tick_raw }) ∷ (record { of = Gtod cpu; value = tick_gtod }) ∷ []
+pair_loads cpu v pair w tick_raw tick_gtod s here f r =
     let raw : Load = record { of = Raw cpu; value = tick_raw } in
     let gtod : Load = record { of = Gtod cpu; value = tick_gtod } in
     let one : f.half.loads ≡ v.loads ++ raw ∷ [] =
     ap (λ (u : View). u.loads) f.first.finds.view_is ∙ ap (λ k. v.loads ++ (record { of = Raw k; value = tick_raw }) ∷ []) (sym here) in
     let two : pair.loads ≡ f.half.loads ++ gtod ∷ [] =
     ap (λ (u : View). u.loads) f.second.finds.view_is ∙ ap (λ k. f.half.loads ++ (record { of = Gtod k; value = tick_gtod }) ∷ []) (sym here) in
-    let rest : w.loads ≡ pair.loads ++ clock_loads cpu (r.lost ++ s.old ∷ []) =
-    ap (λ (u : View). u.loads) r.view_is ∙ ap (λ k. pair.loads ++ clock_loads k (r.lost ++ s.old ∷ [])) word in
-    rest
-    ∙ ap (λ ls. ls ++ clock_loads cpu (r.lost ++ s.old ∷ [])) (two ∙ ap (λ ls. ls ++ gtod ∷ []) one)
-    ∙ append_assoc (v.loads ++ raw ∷ []) (gtod ∷ []) (clock_loads cpu (r.lost ++ s.old ∷ []))
-    ∙ append_assoc v.loads (raw ∷ []) (gtod ∷ clock_loads cpu (r.lost ++ s.old ∷ []))
+    ap (λ (u : View). u.loads) r.makes.view_is
+    ∙ two
+    ∙ ap (λ ls. ls ++ gtod ∷ []) one
+    ∙ append_assoc v.loads (raw ∷ []) (gtod ∷ [])
 
 -- what the loads of a pair leave as it was
 pair_seen : (v pair : View) (tick_raw tick_gtod : ℤ) → FindsPair v tick_raw tick_gtod pair → pair.seen ≡ v.seen
@@ -53,52 +51,47 @@ pair_seen v pair tick_raw tick_gtod f = ap (λ (u : View). u.seen) f.second.find
 pair_mine : (v pair : View) (tick_raw tick_gtod : ℤ) → FindsPair v tick_raw tick_gtod pair → pair.mine ≡ v.mine
 pair_mine v pair tick_raw tick_gtod f = ap (λ (u : View). u.mine) f.second.finds.view_is ∙ ap (λ (u : View). u.mine) f.first.finds.view_is
 
-same_step : (v pair : View) (call : ℕ) (since : Since) (raw old : ℤ) → KeepsSeat v pair → since.raw ≡ raw → since.offset ≡ v.start.opening.offset
-    → own_step pair call (why_of since) old ≡ own_step v call (Raise raw since.tick_raw since.tick_gtod v.start.opening.offset) old
-same_step v pair call since raw old kept is offset =
-    ap (λ n. record (own_step pair call (why_of since) old) { by = n }) kept.number_is
-    ∙ ap (λ k. record (own_step pair call (why_of since) old) { by = v.number; word = cpu_of k }) kept.kind_is
-    ∙ ap (λ (o : Start). record (own_step v call (why_of since) old) { new = raise old (target o.tick (why_of since)) }) kept.start_is
-    ∙ ap (λ x. own_step v call (Raise x since.tick_raw since.tick_gtod since.offset) old) is
-    ∙ ap (λ x. own_step v call (Raise raw since.tick_raw since.tick_gtod x) old) offset
+-- a seat that was kept makes the same step
+same_step : (v pair : View) (call : ℕ) (why : Why) (old : ℤ) → KeepsSeat v pair → own_step pair call why old ≡ own_step v call why old
+same_step v pair call why old kept =
+    ap (λ n. record (own_step pair call why old) { by = n }) kept.number_is
+    ∙ ap (λ k. record (own_step pair call why old) { by = v.number; word = cpu_of k }) kept.kind_is
+    ∙ ap (λ (o : Start). record (own_step v call why old) { new = raise old (target o.tick why) }) kept.start_is
 
-step_rises : (v : View) (call : ℕ) (why : Why) (s : Step) → s ≡ own_step v call why s.old → s.old ≤ℤ s.new
-step_rises v call why s is = let e = ap (λ (t : Step). t.new) is in rw e (omega (arith, ints, clamps))
+step_rises : (v : View) (call : ℕ) (why : Why) (s : Step) → s ≡ own_step v call why s.old → IsNotBelow s.new s.old
+step_rises v call why s is = subst (λ x. IsNotBelow x s.old) (sym (ap (λ (t : Step). t.new) is)) (raise_rises s.old (target v.start.tick why))
 
-pub shows_raised : (z : Site) (v w : Known) (pair : View) (raw : RawReading) (since : Since) (step : Step)
+pub shows_raised : (z : Site) (v w : Known) (pair : View) (raw : RawReading) (why : Why) (step : Step)
     → z.cpu ≡ cpu_of v.view.kind → DrawsTicket v.time raw.ticket w.time → Reads z.machine z.cpu z.adjust v.epoch w.epoch raw
-    → FindsPair v.view since.tick_raw since.tick_gtod pair → since.raw ≡ raw.ns → since.offset ≡ v.view.start.opening.offset → KeepsSeat v.view pair
-    → step ≡ own_step pair z.call (why_of since) step.old → Raises pair step w.view → ShowsRaised z v raw step w
-shows_raised z v w pair raw since step here draws reads finds is offset kept step_is raises = record {
-  tick_raw = since.tick_raw;
-  tick_gtod = since.tick_gtod;
+    → FindsWhy v.view raw.ns why pair → KeepsSeat v.view pair
+    → step ≡ own_step pair z.call why step.old → Raises pair step w.view → ShowsRaised z v raw step w
+shows_raised z v w pair raw why step here draws reads finds kept step_is raises = record {
+  tick_raw = finds.tick_raw;
+  tick_gtod = finds.tick_gtod;
   pair = pair;
   reads = record { draws = draws; reads = reads };
-  finds = finds;
+  finds = finds.pair;
   raises = raises;
-  step_is = same;
-  mine_is = ap (λ (u : View). u.mine) raises.view_is ∙ ap (λ ss. ss ++ step ∷ []) (pair_mine _ _ _ _ finds);
-  seen_is = ap (λ (u : View). u.seen) raises.view_is ∙ ap (λ ss. (ss ++ raises.between) ++ step ∷ []) (pair_seen _ _ _ _ finds);
-  loads_is = pair_loads z.cpu v.view pair w.view since.tick_raw since.tick_gtod step here word finds raises;
-  pairs_is = ap (λ (u : View). u.pairs) raises.view_is;
-  above = above;
-  rises = step_rises v.view z.call _ step same;
+  step_is = same ∙ ap (λ y. own_step v.view z.call y step.old) finds.why_is;
+  mine_is = ap (λ (u : View). u.mine) raises.makes.view_is ∙ ap (λ ss. ss ++ step ∷ []) (pair_mine _ _ _ _ finds.pair);
+  seen_is = ap (λ (u : View). u.seen) raises.makes.view_is ∙ ap (λ ss. (ss ++ raises.makes.between) ++ step ∷ []) (pair_seen _ _ _ _ finds.pair);
+  loads_is = pair_loads z.cpu v.view pair w.view finds.tick_raw finds.tick_gtod step here finds.pair raises;
+  pairs_is = ap (λ (u : View). u.pairs) raises.makes.view_is;
+  not_below = subst (IsNotBelow step.old) shown (found_not_below pair w.view step raises);
+  rises = step_rises v.view z.call why step same;
 }
   where
-    same : step ≡ own_step v.view z.call (Raise raw.ns since.tick_raw since.tick_gtod v.view.start.opening.offset) step.old
-    same = step_is ∙ same_step v.view pair z.call since raw.ns step.old kept is offset
+    same : step ≡ own_step v.view z.call why step.old
+    same = step_is ∙ same_step v.view pair z.call why step.old kept
 
     word : step.word ≡ z.cpu
     word = ap (λ (t : Step). t.word) same ∙ sym here
 
-    start_seen : shown_on step.word pair ≡ shown_on z.cpu v.view
-    start_seen =
+    shown : shown_on step.word pair ≡ shown_on z.cpu v.view
+    shown =
         ap (λ (o : Start). value_after (opens_at o) step.word pair.seen) kept.start_is
-        ∙ ap (λ ss. value_after (opens_at v.view.start) step.word ss) (pair_seen _ _ _ _ finds)
+        ∙ ap (λ ss. value_after (opens_at v.view.start) step.word ss) (pair_seen _ _ _ _ finds.pair)
         ∙ ap (λ k. shown_on k v.view) word
-
-    above : shown_on z.cpu v.view ≤ℤ step.old
-    above = subst (λ x. x ≤ℤ step.old) start_seen raises.above
 
 -- ---- stamps
 
@@ -155,8 +148,8 @@ owner_raised z v w raw step shows may =
     let owner_half = owner_raw v.view f.half shows.tick_raw f.first may.owner in
     let whole_half = whole_raw v.view f.half shows.tick_raw f.first may.owner may.whole in
     record {
-      owner = subst IsOwner (sym shows.raises.view_is) (owner_gtod f.half shows.pair shows.tick_gtod second owner_half);
-      whole = subst StampsAreWhole (sym shows.raises.view_is) (whole_gtod f.half shows.pair shows.tick_gtod second owner_half whole_half);
+      owner = subst IsOwner (sym shows.raises.makes.view_is) (owner_gtod f.half shows.pair shows.tick_gtod second owner_half);
+      whole = subst StampsAreWhole (sym shows.raises.makes.view_is) (whole_gtod f.half shows.pair shows.tick_gtod second owner_half whole_half);
     }
 
 -- a tick, whose reading was made at the same site

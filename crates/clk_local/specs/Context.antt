@@ -1,13 +1,16 @@
 -- What contracts see of a thread's context, what each call asks of it, and what each call keeps.
-use Rattle.std.specs.Prelude.{◌≡◌, ℕ, ◌+◌, ◌<◌, ℤ}
-use Rattle.clk_num.specs.Range.{IsNear}
+use Rattle.std.specs.Prelude.{◌≡◌, ℕ, ◌+◌, ◌^◌, ◌<◌, ℤ, slice_index_or}
+use Rattle.clk_num.specs.Range.{IsNear, IsFrom0To}
 use Rattle.clk_ticket.specs.Time.{Time, share_of}
 use Rattle.clk_words.specs.declared.view.View.{View}
 use Rattle.clk_words.specs.Kinds.{cpu_of}
 use Rattle.clk_words.specs.Held.{place_of}
+use Rattle.clk_words.specs.Histories.{opens_at}
 use Rattle.clk_words.specs.Knowing.{HasFoundPerCpu, IsOwner, IsReading, StampsAreWhole}
 use Rattle.clk_words.specs.Calls.{KeepsSeat}
 use Rattle.clk_machine.specs.Plan.{Plan, cpu_count}
+use Rattle.clk_machine.specs.Records.{base_of, above_base}
+use Rattle.clk_machine.specs.declared.reading.Published.{Published}
 use Rattle.clk_latch.specs.Epoch.{Epoch}
 use Rattle.clk_local.specs.declared.context.Ctx.{Ctx}
 
@@ -30,9 +33,14 @@ pub record Known : Type 0 where
 abbrev pub known_of : {E S : Type 0} → (S → Epoch) → Ctx E S → Known
 known_of epoch ctx = record { view = ctx.seat.view; epoch = epoch ctx.latch_seat; time = ctx.time }
 
+-- record 0 of a latch has the machine's base as its ns
+pub record BeginsAtBase (m : Plan) (e : Epoch) : Type 0 where
+  pub zero : (d : Published) → (slice_index_or e.records 0 d).ns ≡ base_of m
+
 -- what every call asks of its context: each seat belongs to its object, the words' seat shows a CPU's kind and has found
--- the mode per-CPU, the counter is that CPU's, and the words were made with the machine's tick
-pub record IsUsable {E S : Type 0} (fits : E → S → Type 0) (ctx : Ctx E S) : Type 0 where
+-- the mode per-CPU, the counter is that CPU's, the words were made with the machine's tick, and the latch and the words
+-- begin near the machine's base, so that every raw reading is near the opening of the words
+pub record IsUsable {E S : Type 0} (fits : E → S → Type 0) (epoch : S → Epoch) (ctx : Ctx E S) : Type 0 where
   pub of_words : place_of ctx.seat ≡ ctx.words.now
   pub of_latch : fits ctx.epochs.now ctx.latch_seat
   pub of_tickets : ctx.time.table ≡ ctx.tickets.now.table
@@ -43,6 +51,8 @@ pub record IsUsable {E S : Type 0} (fits : E → S → Type 0) (ctx : Ctx E S) :
   pub near : IsNear 47 ctx.counter.adjust
   pub tick_is : ctx.words.now.start.tick ≡ ctx.counter.machine.now.tick
   pub offset : IsNear 59 ctx.sched_offset
+  pub base : BeginsAtBase ctx.counter.machine.now (epoch ctx.latch_seat)
+  pub opening : IsFrom0To (2 ^ 57) (above_base ctx.counter.machine.now (opens_at ctx.seat.view.start))
 
 -- what a call that stamps asks besides: the right to the CPU's pair, with as many raws as GTODs
 pub record MayStamp (v : View) : Type 0 where
@@ -50,14 +60,14 @@ pub record MayStamp (v : View) : Type 0 where
   pub whole : StampsAreWhole v
 
 -- what no call changes, and that the next call may use the context again, and may stamp if this one might
-pub record Keeps {E S : Type 0} (fits : E → S → Type 0) (before after : Ctx E S) : Type 0 where
+pub record Keeps {E S : Type 0} (fits : E → S → Type 0) (epoch : S → Epoch) (before after : Ctx E S) : Type 0 where
   pub words : after.words.now ≡ before.words.now
   pub epochs : after.epochs.now ≡ before.epochs.now
   pub tickets : after.tickets.now ≡ before.tickets.now
   pub site : site_of after ≡ site_of before
   pub sched_offset : after.sched_offset ≡ before.sched_offset
   pub seat : KeepsSeat before.seat.view after.seat.view
-  pub usable : IsUsable fits after
+  pub usable : IsUsable fits epoch after
   pub may_stamp : MayStamp before.seat.view → MayStamp after.seat.view
 
 -- n tickets were drawn from what was left to the seat, and its share of them all is the same

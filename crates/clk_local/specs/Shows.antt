@@ -1,6 +1,7 @@
 -- What each call shows, as the events of a trace do: a raised reading, a stamp, and what a tick and an idle event make of
 -- them. Each is told of what the thread's seats had before it and after it, so that the events of a thread are a chain.
-use Rattle.std.specs.Prelude.{◌≡◌, ℕ, ℤ, ◌≤ℤ◌, [], ◌∷◌, ◌++◌}
+use Rattle.std.specs.Prelude.{◌≡◌, ℕ, ℤ, [], ◌∷◌, ◌++◌}
+use Rattle.clk_num.specs.Wrapping.{IsNotBelow}
 use Rattle.clk_ticket.specs.Time.{Time}
 use Rattle.clk_words.specs.declared.step.Step.{Step}
 use Rattle.clk_words.specs.declared.step.Why.TheVariants.{Raise}
@@ -8,7 +9,7 @@ use Rattle.clk_words.specs.declared.view.View.{View}
 use Rattle.clk_words.specs.declared.view.Name.TheVariants.{Raw, Gtod}
 use Rattle.clk_words.specs.Bounds.{IsGtod}
 use Rattle.clk_words.specs.Parts.{gtod_of, raw_of}
-use Rattle.clk_words.specs.Told.{stamped}
+use Rattle.clk_words.specs.Told.{Raises, stamped}
 use Rattle.clk_machine.specs.declared.reading.RawReading.{RawReading}
 use Rattle.clk_machine.specs.Time.{gtod_at}
 use Rattle.clk_latch.specs.Calls.{DrawsTicket, Reads}
@@ -18,14 +19,14 @@ use Rattle.clk_local.specs.declared.events.TickEvent.{TickEvent}
 use Rattle.clk_local.specs.declared.events.TickEvent.TheVariants.{Nothing, Ticked}
 use Rattle.clk_local.specs.declared.events.IdleEvent.{IdleEvent}
 use Rattle.clk_local.specs.Context.{Site, Known}
-use Rattle.clk_local.specs.Raising.{FindsPair, Raises, clock_loads, own_step, shown_on}
+use Rattle.clk_local.specs.Raising.{FindsPair, own_step, shown_on}
 
 -- a raw reading of the thread's CPU at a ticket of its own
 pub record ReadsRaw (z : Site) (v : Known) (t : Time) (raw : RawReading) (w : Known) : Type 0 where
   pub draws : DrawsTicket t raw.ticket w.time
   pub reads : Reads z.machine z.cpu z.adjust v.epoch w.epoch raw
 
--- a raised reading: a raw reading, then the loads of the pair, then the word is loaded and raised to the target of those
+-- a raised reading: a raw reading, then the loads of the pair, and then one step that raises the word to the target of those
 pub record ShowsRaised (z : Site) (v : Known) (raw : RawReading) (step : Step) (w : Known) : Type 0 where
   pub tick_raw : ℤ
   pub tick_gtod : ℤ
@@ -36,13 +37,12 @@ pub record ShowsRaised (z : Site) (v : Known) (raw : RawReading) (step : Step) (
   pub step_is : step ≡ own_step v.view z.call (Raise raw.ns tick_raw tick_gtod v.view.start.opening.offset) step.old
   -- what that comes to in the seat's lists
   pub mine_is : w.view.mine ≡ v.view.mine ++ step ∷ []
-  pub seen_is : w.view.seen ≡ (v.view.seen ++ raises.between) ++ step ∷ []
-  pub loads_is : w.view.loads ≡ v.view.loads
-      ++ (record { of = Raw z.cpu; value = tick_raw }) ∷ (record { of = Gtod z.cpu; value = tick_gtod }) ∷ clock_loads z.cpu (raises.lost ++ step.old ∷ [])
+  pub seen_is : w.view.seen ≡ (v.view.seen ++ raises.makes.between) ++ step ∷ []
+  pub loads_is : w.view.loads ≡ v.view.loads ++ (record { of = Raw z.cpu; value = tick_raw }) ∷ (record { of = Gtod z.cpu; value = tick_gtod }) ∷ []
   pub pairs_is : w.view.pairs ≡ pair.pairs
-  -- the reading is nowhere below what the seat had seen of the word
-  pub above : shown_on z.cpu v.view ≤ℤ step.old
-  pub rises : step.old ≤ℤ step.new
+  -- what the word held is not below what the seat had seen of it, and the reading is not below that
+  pub not_below : IsNotBelow step.old (shown_on z.cpu v.view)
+  pub rises : IsNotBelow step.new step.old
 
 -- a stamp: a GTOD is drawn for and stored, and then a raw reading
 pub record ShowsStamp (z : Site) (v : Known) (gtod_ticket : ℕ) (gtod : ℤ) (stamp : RawReading) (w : Known) : Type 0 where

@@ -8,11 +8,11 @@ use clk_words::{Seat, Words};
 /// Contracts see `Site` and `Known` of it (`specs/Context.antt`), and `IsUsable` is what each call asks of it.
 #[derive(Drop)]
 pub struct Ctx<'a, E: Epochs> {
-    /// The clock words, made with the machine's tick.
+    /// The clock words, made with the machine's tick. They open 0 to 2^57 ns above the machine's base.
     pub words: &'a Words,
     /// The thread's seat at them, of another kind than `Watch`.
     pub seat: Seat,
-    /// The latch of the seat's CPU.
+    /// The latch of the seat's CPU, whose record 0 has the machine's base as its ns.
     pub epochs: &'a E,
     /// The thread's seat at it.
     pub latch_seat: E::Seat,

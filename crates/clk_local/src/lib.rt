@@ -3,22 +3,22 @@
 //! A local read takes a raw reading and raises its CPU's clock word to the time at the last tick's stamp and what has
 //! passed since, at most one tick, after `sched_clock_local` of Linux 6.1's `kernel/sched/clock.c`. A tick stamps the CPU
 //! and then reads, after `sched_clock_tick`. An idle event is a local read and then a tick, after
-//! `sched_clock_idle_wakeup_event`. The names `tick_raw` and `tick_gtod` are those of `struct sched_clock_data`.
+//! `sched_clock_idle_wakeup_event`. The names `tick_raw` and `tick_gtod` are those of `struct sched_clock_data`. Clock
+//! values wrap at 64 bits, and the sign of their difference tells which is above.
 //!
 //! It promises that a reading is the new value of one step in the history of the clock words, that this step shows the
 //! raw reading and the loaded pair that its target came from, and that it is nowhere below what the thread's seat had seen
 //! of the word. The step of a tick shows the pair of that tick's own stamp. No call waits or takes memory.
 //!
-//! It promises no order between threads beyond that history, and no bound on how often an exchange is lost: each lost one
-//! shows that another thread raised the word.
+//! It promises no order between threads beyond that history.
 //!
 //! How it works: a thread keeps its seats in a [`Ctx`]. A call is told of what they had before and after it
-//! (`specs/Shows.antt`), so that the calls of a thread are a chain of events.
+//! (`specs/Shows.antt`), so that the calls of a thread are a chain of events. A read raises its word by one `fetch_max`,
+//! where Linux loads the word, clamps, and tries an exchange until one is done: so nothing here loops.
 #![tactic(auto)]
 
 mod context;
 mod events;
-mod raise;
 mod readings;
 #[cfg(test)]
 mod tests;

@@ -1,20 +1,25 @@
 //! The local read.
-ghost use Rattle.std.specs.Prelude.{◌≤◌};
+ghost use Rattle.std.specs.Prelude.{◌≡◌, ◌≤◌};
+ghost use Rattle.clk_words.specs.Bounds.{IsRaw};
+ghost use Rattle.clk_words.specs.Calls.{KeepsSeat};
+ghost use Rattle.clk_words.specs.Held.{place_of};
+ghost use Rattle.clk_words.specs.Histories.{opens_at};
+ghost use Rattle.clk_words.specs.Knowing.{HasFoundPerCpu, IsReading, IsTrusted};
 ghost use Rattle.clk_local.specs.Context.{site_of, known_of, IsUsable, Keeps, Spends};
+ghost use Rattle.clk_local.specs.Raising.{FindsWhy};
 ghost use Rattle.clk_local.specs.Shows.{ShowsRaised, ShowsReading, IsPerCpu};
 
 use crate::context::Ctx;
 use crate::events::Reading;
-use crate::raise::{load_since, raise};
 use clk_latch::Epochs;
 use clk_machine::RawReading;
-use clk_words::Step;
+use clk_words::{Seat, Step, Why, Words};
 
 /// A local read. It draws one ticket, and takes no memory and does not wait.
 pub fn local<E: Epochs>(ctx: &mut Ctx<'_, E>) -> Reading
-    requires usable { IsUsable E.fits ctx.old }
+    requires usable { IsUsable E.fits E.epoch ctx.old }
     requires ticket { 1 ≤ ctx.old.time.left }
-    ensures keeps { Keeps E.fits ctx.old ctx.new }
+    ensures keeps { Keeps E.fits E.epoch ctx.old ctx.new }
     ensures spends { Spends 1 ctx.old.time ctx.new.time }
     ensures percpu { IsPerCpu result }
     ensures shows { ShowsReading (site_of ctx.old) (known_of E.epoch ctx.old) result (known_of E.epoch ctx.new) }
@@ -26,15 +31,38 @@ pub fn local<E: Epochs>(ctx: &mut Ctx<'_, E>) -> Reading
 /// The per-CPU part of a local read: the raw reading and the step whose new value is the reading. It draws one ticket,
 /// and takes no memory and does not wait. After `sched_clock_local` of Linux 6.1.
 pub fn local_raised<E: Epochs>(ctx: &mut Ctx<'_, E>) -> (RawReading, Step)
-    requires usable { IsUsable E.fits ctx.old }
+    requires usable { IsUsable E.fits E.epoch ctx.old }
     requires ticket { 1 ≤ ctx.old.time.left }
-    ensures keeps { Keeps E.fits ctx.old ctx.new }
+    ensures keeps { Keeps E.fits E.epoch ctx.old ctx.new }
     ensures spends { Spends 1 ctx.old.time ctx.new.time }
     ensures shows { ShowsRaised (site_of ctx.old) (known_of E.epoch ctx.old) result.0 result.1 (known_of E.epoch ctx.new) }
 {
     let raw = ctx.epochs.read(&mut ctx.latch_seat, ctx.tickets, &mut ctx.time, ctx.counter);
-    let since = load_since(ctx.words, &mut ctx.seat, &raw);
-    let tick = ctx.counter.machine.tick();
-    let step = raise(ctx.words, &mut ctx.seat, ctx.call, &since, &tick);
+    let why = load_why(ctx.words, &mut ctx.seat, raw.ns);
+    let cpu = ctx.seat.cpu();
+    let step = ctx.words.raise(&mut ctx.seat, ctx.call, cpu, why);
     (raw, step)
+}
+
+// Loads what a reading goes by, the raw half of the pair first: a reader that is caught between the two stores of a stamp
+// gets a GTOD that is not older than its raw value, and so does not fall behind.
+fn load_why(words: &Words, seat: &mut Seat, raw: i64) -> Why
+    requires own { place_of seat.old ≡ words.now }
+    requires found { HasFoundPerCpu seat.old.view }
+    requires reading { IsReading seat.old.view.kind }
+    requires raw { IsRaw (opens_at seat.old.view.start) raw }
+    ensures own { place_of seat.new ≡ words.now }
+    ensures kept { KeepsSeat seat.old.view seat.new.view }
+    ensures finds { FindsWhy seat.old.view raw result seat.new.view }
+    ensures trusted { IsTrusted seat.new.view result }
+{
+    let tick_raw = words.load_raw(seat);
+    let tick_gtod = words.load_gtod(seat);
+    let offset = words.load_offset(seat);
+    Why::Raise {
+        raw,
+        tick_raw,
+        tick_gtod,
+        offset,
+    }
 }

@@ -12,10 +12,10 @@ use clk_machine::RawReading;
 /// A tick: a stamp, and a local read that goes by it. The seat may stamp its CPU, and as many raws as GTODs follow stamp 0
 /// by its view. It draws three tickets, and takes no memory and does not wait. After `sched_clock_tick` of Linux 6.1.
 pub fn tick<E: Epochs>(ctx: &mut Ctx<'_, E>) -> TickEvent
-    requires usable { IsUsable E.fits ctx.old }
+    requires usable { IsUsable E.fits E.epoch ctx.old }
     requires stamp { MayStamp ctx.old.seat.view }
     requires tickets { 3 ≤ ctx.old.time.left }
-    ensures keeps { Keeps E.fits ctx.old ctx.new }
+    ensures keeps { Keeps E.fits E.epoch ctx.old ctx.new }
     ensures spends { Spends 3 ctx.old.time ctx.new.time }
     ensures ticked { HasTicked result }
     ensures shows { ShowsTick (site_of ctx.old) (known_of E.epoch ctx.old) result (known_of E.epoch ctx.new) }
@@ -34,10 +34,10 @@ pub fn tick<E: Epochs>(ctx: &mut Ctx<'_, E>) -> TickEvent
 /// An idle event: a local read, and then a tick with its conditions. It draws four tickets, and takes no memory and does
 /// not wait. After `sched_clock_idle_wakeup_event` of Linux 6.1, which has the tick alone.
 pub fn idle<E: Epochs>(ctx: &mut Ctx<'_, E>) -> IdleEvent
-    requires usable { IsUsable E.fits ctx.old }
+    requires usable { IsUsable E.fits E.epoch ctx.old }
     requires stamp { MayStamp ctx.old.seat.view }
     requires tickets { 4 ≤ ctx.old.time.left }
-    ensures keeps { Keeps E.fits ctx.old ctx.new }
+    ensures keeps { Keeps E.fits E.epoch ctx.old ctx.new }
     ensures spends { Spends 4 ctx.old.time ctx.new.time }
     ensures percpu { IsPerCpu result.read }
     ensures ticked { HasTicked result.tick }
@@ -58,10 +58,10 @@ struct Stamp {
 
 // Stores a stamp, its GTOD first: so no reader finds a GTOD that is older than the raw value which it has found.
 fn store_stamp<E: Epochs>(ctx: &mut Ctx<'_, E>) -> Stamp
-    requires usable { IsUsable E.fits ctx.old }
+    requires usable { IsUsable E.fits E.epoch ctx.old }
     requires stamp { MayStamp ctx.old.seat.view }
     requires tickets { 2 ≤ ctx.old.time.left }
-    ensures keeps { Keeps E.fits ctx.old ctx.new }
+    ensures keeps { Keeps E.fits E.epoch ctx.old ctx.new }
     ensures spends { Spends 2 ctx.old.time ctx.new.time }
     ensures shows { ShowsStamp
         (site_of ctx.old) (known_of E.epoch ctx.old) result.gtod_ticket result.gtod result.raw (known_of E.epoch ctx.new) }

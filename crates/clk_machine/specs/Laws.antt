@@ -1,13 +1,13 @@
 -- How far counters, records and readings of a run go, by the limits alone.
-use Rattle.std.specs.Prelude.{ℕ, ◌*◌, ◌^◌, ◌<◌, ◌≤◌, ℤ, pos, ◌≤ℤ◌, List, [], ◌∷◌}
+use Rattle.std.specs.Prelude.{◌≡◌, ℕ, ◌*◌, ◌^◌, ◌<◌, ◌≤◌, ℤ, pos, List, [], ◌∷◌}
 use Rattle.std.specs.List.{All}
-use Rattle.clk_num.specs.Range.{IsNear}
+use Rattle.clk_num.specs.Range.{IsNear, IsFrom0To}
 use Rattle.clk_machine.specs.declared.reading.RawReading.{RawReading}
 use Rattle.clk_machine.specs.declared.reading.Published.{Published}
 use Rattle.clk_machine.specs.Plan.{Plan, cpu_count}
 use Rattle.clk_machine.specs.Limits.{IsWithinLimits}
 use Rattle.clk_machine.specs.Time.{counter_at}
-use Rattle.clk_machine.specs.Records.{AreRecords, IsRightReading}
+use Rattle.clk_machine.specs.Records.{above_base, AreRecords, IsRightReading}
 
 -- a CPU of a machine, and an adjustment that a bring-up may give it
 pub record IsAdjusted (m : Plan) (cpu : ℕ) (adjust : ℤ) : Type 0 where
@@ -29,17 +29,20 @@ CountersAdjustedTwiceAreSmall =
     (m : Plan) (cpu : ℕ) (adjust : ℤ) (k : ℕ) → IsWithinLimits m → cpu < cpu_count m → IsNear 48 adjust → k < 2 ^ 24
     → counter_at m cpu adjust k ≤ 73 * 2 ^ 42
 
--- a count of ns from 0 to this many
-abbrev pub IsFrom0To : ℕ → ℤ → Type 0
-IsFrom0To most ns = (pos 0 ≤ℤ ns) × (ns ≤ℤ pos most)
-
+-- times of records and readings are taken above the base
 abbrev pub RecordsAreSmall : Type 0
 RecordsAreSmall =
     (m : Plan) (cpu : ℕ) (adjust : ℤ) (records : List Published) → IsAdjusted m cpu adjust → AreRecords m cpu adjust records
-    → AreInOrder 0 records → All (λ p. IsFrom0To (46 * 2 ^ 52) p.ns) records
+    → AreInOrder 0 records → All (λ p. IsFrom0To (46 * 2 ^ 52) (above_base m p.ns)) records
 
--- no raw reading is negative, and all are far below 2^59 ns
+-- no raw reading is below the base, and all are less than 2^59 ns above it
 abbrev pub ReadingsAreSmall : Type 0
 ReadingsAreSmall =
     (m : Plan) (cpu : ℕ) (adjust : ℤ) (records : List Published) (r : RawReading) → IsAdjusted m cpu adjust → AreRecords m cpu adjust records
-    → AreInOrder 0 records → r.ticket < 2 ^ 24 → IsRightReading m cpu adjust records r → IsFrom0To (87 * 2 ^ 52) r.ns
+    → AreInOrder 0 records → r.ticket < 2 ^ 24 → IsRightReading m cpu adjust records r → IsFrom0To (87 * 2 ^ 52) (above_base m r.ns)
+
+-- CPU 0 began record 0 by its own counter, and so its readings by that record are what this counter went since ticket 0
+abbrev pub FirstReadingsAreSmall : Type 0
+FirstReadingsAreSmall =
+    (m : Plan) (records : List Published) (r : RawReading) → IsWithinLimits m → AreRecords m 0 (pos 0) records → r.rec ≡ 0
+    → r.ticket < 2 ^ 24 → IsRightReading m 0 (pos 0) records r → IsFrom0To (5 * 2 ^ 52) (above_base m r.ns)

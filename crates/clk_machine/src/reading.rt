@@ -1,7 +1,7 @@
 use crate::machine::Machine;
 
 /// A raw clock reading: the ticket that was drawn for it, the counter there in cycles, the number of the latch record that
-/// converted it, and the time in ns. After `sched_clock` of Linux 6.1's `kernel/time/sched_clock.c`.
+/// converted it, and the time in ns, which wraps. After `sched_clock` of Linux 6.1's `kernel/time/sched_clock.c`.
 #[derive(Clone, Copy, PartialEq, Eq, Debug)]
 pub struct RawReading {
     pub ticket: u64,
@@ -11,7 +11,7 @@ pub struct RawReading {
 }
 
 /// A latch record as it was published: its number, the ticket at which its update read the counter, the counter there in
-/// cycles, and the time in ns. After `clock_read_data` of Linux 6.1's `kernel/time/sched_clock.c`.
+/// cycles, and the time in ns, which wraps. After `clock_read_data` of Linux 6.1's `kernel/time/sched_clock.c`.
 #[derive(Clone, Copy, PartialEq, Eq, Debug)]
 pub struct Published {
     pub rec: u32,

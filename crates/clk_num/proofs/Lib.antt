@@ -1,4 +1,6 @@
-pub mod Clamping
+pub mod Wraps
+pub mod Heights
+pub mod Compared
 pub mod Turning
 pub mod Converting
 pub mod Greatest

@@ -1,11 +1,9 @@
 -- A conversion by a rate that was chosen gives at most the true time, and a little for the mult's rounding.
-use Rattle.std.proofs.Common.{◌≡◌, ℕ, ◌+◌, ◌-◌, ◌*◌, ◌/◌, ◌^◌, ◌<◌, ◌≤◌, Option, Some, None, length, sym, ap, ◌∙◌, subst, arith}
+use Rattle.std.proofs.Common.{◌≡◌, ℕ, ◌+◌, ◌-◌, ◌*◌, ◌/◌, ◌^◌, ◌<◌, ◌≤◌, Option, Some, None, sym, ap, ◌∙◌, subst, arith}
 use Rattle.std.specs.Option.{MatchOption}
-use Rattle.std.specs.Int.Digits.{digits_of}
 use Rattle.std.proofs.lemmas.Int.Digits.{length-digits_of-le}
 use Rattle.std.proofs.lemmas.Nat.{div_below, pow-add, pow_pos}
 use Rattle.std.proofs.Math.Nat.{div-mul-le_self, mul-le-mul_left, mul-le-mul_right, le_of_mul-le-mul_left, pow-le-pow_right}
-use Rattle.clk_num.specs.declared.rate.Rate.{Rate}
 use Rattle.clk_num.specs.Conversion.{convert}
 use Rattle.clk_num.specs.Rates.{mult_bits, quotient, greatest_shift, rate_at, mult_shift}
 use Rattle.clk_num.specs.Laws.{NoShiftPasses, IsGreatestShift}

@@ -1,5 +1,6 @@
 pub mod Listed
 pub mod Lent
+pub mod Wrapping
 pub mod Clamp
 pub mod Biased
 pub mod Range
@@ -7,3 +8,4 @@ pub mod Masked
 pub mod Conversion
 pub mod Rates
 pub mod Laws
+pub mod WrapLaws

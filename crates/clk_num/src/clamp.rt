@@ -1,18 +1,23 @@
-ghost use Rattle.std.specs.Prelude.{◌≡◌, pos, ◌≤ℤ◌};
-ghost use Rattle.clk_num.specs.Clamp.{raise, local_target};
-ghost use Rattle.clk_num.specs.Range.{IsNear};
+// What a local reading puts in the place of its CPU's clock word.
+ghost use Rattle.std.specs.Prelude.{◌≡◌};
+ghost use Rattle.clk_num.specs.Clamp.{local_target};
+ghost use Rattle.clk_num.specs.Wrapping.{raise};
 
-/// What a local reading puts in the place of `old`, all in ns: `base` is the time at the last tick's stamp, `delta` how
-/// far the raw clock went since, and `tick` the length of a tick. It is the greater of `old` and the time, which stops at
-/// the end of the tick. Linux clamps the time between two bounds (`sched_clock_local`), and so does this call.
+use crate::wrapping::raise;
+
+/// The time since the last tick's stamp, in ns: `base` is the time at the stamp, `delta` how far the raw clock went since,
+/// and `tick` the length of a tick, at whose end the time stops. The sum wraps.
+pub fn target_local(base: i64, delta: i64, tick: i64) -> i64
+    ensures { result ≡ local_target base delta tick }
+{
+    base.wrapping_add(delta.min(tick))
+}
+
+/// What a local reading puts in the place of `old`, all in ns: the later of `old` and [`target_local`]. Linux clamps the
+/// time between `max(base, old)` and `max(old, base + tick)` (`sched_clock_local`), which is the same where `delta` and
+/// `tick` are not negative.
 pub fn clamp_local(old: i64, base: i64, delta: i64, tick: i64) -> i64
-    requires old { IsNear 61 old }
-    requires base { IsNear 61 base }
-    requires delta { (pos 0 ≤ℤ delta) × IsNear 61 delta }
-    requires tick { (pos 0 ≤ℤ tick) × IsNear 61 tick }
     ensures { result ≡ raise old (local_target base delta tick) }
 {
-    let low = base.max(old);
-    let high = old.max(base + tick);
-    (base + delta).max(low).min(high)
+    raise(old, target_local(base, delta, tick))
 }

@@ -1,4 +1,5 @@
 ghost use Rattle.clk_num.specs.Laws.{ConversionRises, ConversionAdds, ConversionIsTrue, SourceCyclesAreFew, MaskedDifferenceIsTrue, MaskedDifferenceIsNone, MaskedDifferenceIsShort, WordsAreInverse, WordsCompare, WordsInRange, ShiftIsGreatest, ProductsFit};
+ghost use Rattle.clk_num.specs.WrapLaws.{WrapsByTurns, WrapKeepsValues, HeightsAreValues, HeightsCompare, RaisesNeverFall, RaisesReach, RaisesAreGreatest, BitsAreInverse};
 
 /// A conversion never falls as cycles grow, and that of a sum is the sum of the two conversions, or one more.
 pub fn conversions_add()
@@ -28,6 +29,25 @@ pub fn words_are_values()
     ensures inverse { WordsAreInverse }
     ensures order { WordsCompare }
     ensures range { WordsInRange }
+{}
+
+/// A clock value is a number modulo 2^64, and each has one word in two's complement. Above any opening, heights and values
+/// correspond while they are within 2^62 of it, and within 2^61 they compare alike: so the sign of [`crate::above`] tells
+/// which value is later.
+pub fn values_wrap()
+    ensures turns { WrapsByTurns }
+    ensures keeps { WrapKeepsValues }
+    ensures heights { HeightsAreValues }
+    ensures order { HeightsCompare }
+    ensures bits { BitsAreInverse }
+{}
+
+/// A register that [`crate::raise`] moves never falls, by the sign of [`crate::above`]: it stays as it is, or it is above
+/// what it was. It is not below what was put in, and over heights it is the greater of the two.
+pub fn raises_never_fall()
+    ensures rises { RaisesNeverFall }
+    ensures reaches { RaisesReach }
+    ensures greatest { RaisesAreGreatest }
 {}
 
 /// The shift of [`crate::mult_shift`] is the greatest that passes, or none passes. Where one does, no product of its mult

@@ -1,16 +1,29 @@
 use crate::biased::{value_of, word_of};
-use crate::clamp::clamp_local;
+use crate::clamp::{clamp_local, target_local};
 use crate::conversion::{cyc_to_ns, max_nsecs};
 use crate::list::List;
 use crate::masked::{mask_of, masked_delta};
 use crate::rate::{Rate, mult_shift, source_rate};
+use crate::wrapping::{above, bits_of, raise, value_of_bits};
 use std::test::Fail;
 
 #[test]
 fn a_reading_stops_at_the_tick_end(rt: HostRuntime) {
     assert_eq!(rt; clamp_local(60, 50, 2_000_020, 1_000_000), 1_000_050);
     assert_eq!(rt; clamp_local(30, 20, 0, 1_000_000), 30);
-    assert_eq!(rt; clamp_local(20, 20, 10, 1_000_000), 30);
+    assert_eq!(rt; target_local(50, 2_000_020, 1_000_000), 1_000_050);
+}
+
+#[test]
+fn values_go_over_the_end(rt: HostRuntime) {
+    let late = 9_223_372_036_854_775_802;
+    let past = -9_223_372_036_854_775_804;
+    assert_eq!(rt; clamp_local(late, late, 10, 1_000_000), past);
+    assert_eq!(rt; above(past, late), 10);
+    assert_eq!(rt; raise(late, past), past);
+    assert_eq!(rt; raise(past, late), past);
+    assert_eq!(rt; value_of_bits(bits_of(past)), past);
+    assert_eq!(rt; bits_of(-1), u64::MAX);
 }
 
 #[test]

@@ -1,5 +1,5 @@
 -- The trace of a run is lawful.
-use Rattle.std.proofs.Common.{◌≡◌, pos, List, [], ◌∷◌, ◌++◌, ap, ◌∙◌, ◌+ℤ◌, sym, subst, refl, arith, append-nil}
+use Rattle.std.proofs.Common.{◌≡◌, ℤ, pos, List, [], ◌∷◌, ◌++◌, ap, ◌∙◌, ◌+ℤ◌, sym, subst, refl, arith, append-nil}
 use Rattle.std.proofs.lemmas.Int.{ints}
 use Rattle.std.proofs.lemmas.List.Elements.{All-nil, All-cons}
 use Rattle.std.specs.List.{All, flat_map}
@@ -8,6 +8,8 @@ use Rattle.clk_base.specs.declared.block.Block.{Block}
 use Rattle.clk_base.specs.Blocks.{Covers, Rises}
 use Rattle.clk_base.proofs.Rising.{rises_front, rises_back, rises_apart}
 use Rattle.clk_num.specs.Listed.{Listed}
+use Rattle.clk_num.specs.Wrapping.{wrap}
+use Rattle.clk_num.proofs.Heights.{above_same}
 use Rattle.clk_machine.specs.Plan.{Plan, cpu_count}
 use Rattle.clk_machine.specs.Records.{record_zero, AreRecords}
 use Rattle.clk_machine.specs.declared.reading.Published.{Published}
@@ -30,7 +32,8 @@ use Rattle.clk_tool.proofs.OneThread.{one_thread, threads_one}
 use Rattle.clk_tool.proofs.RunBlocks.{runs_blocks}
 use Rattle.clk_tool.proofs.RunReadings.{records_in, runs_records, runs_right, runs_number}
 use Rattle.clk_tool.proofs.RunPairs.{runs_name}
-use Rattle.clk_tool.proofs.RunSteps.{word_steps, runs_mine, runs_raise, on_the_word, trace_chain, same_changes}
+use Rattle.clk_tool.proofs.Rising.{Sees}
+use Rattle.clk_tool.proofs.RunSteps.{word_steps, runs_mine, AllRaise, runs_raise, on_the_word, trace_chain, same_changes}
 use Rattle.clk_tool.proofs.Starting.{owner_is, home, first_pair}
 use Rattle.clk_tool.proofs.RunHistory.{script_calls, lines_sorted, never_fall}
 
@@ -93,19 +96,30 @@ own_steps m t closed r =
     runs_mine m (start_of m r.boot.stamp) (known_by r.boot.seats) r.events.items r.after (home m r.boot r.booted) r.runs
     ∙ ap (λ (v : View). v.mine ++ word_steps r.events.items) (owner_is m r.boot r.booted)
 
--- they are a chain from the opening
-own_chain : (m : Plan) (t : Trace) (closed : List Step) (r : IsRunOf m t closed) → IsChain m.tick (r.boot.stamp.gtod +ℤ r.boot.stamp.offset) (steps_from 0 0 r.events.items)
+-- where the clock words open
+abbrev opening_of_run : {m : Plan} {t : Trace} {closed : List Step} → IsRunOf m t closed → ℤ
+opening_of_run r = wrap (r.boot.stamp.gtod +ℤ r.boot.stamp.offset)
+
+-- each reading raises its word above that
+own_raises : (m : Plan) (t : Trace) (closed : List Step) (r : IsRunOf m t closed) → AllRaise m.tick (opening_of_run r) r.events.items
+own_raises m t closed r = runs_raise m (start_of m r.boot.stamp) (known_by r.boot.seats) r.events.items r.after (home m r.boot r.booted) r.runs
+
+-- the steps are a chain from there
+own_chain : (m : Plan) (t : Trace) (closed : List Step) (r : IsRunOf m t closed) → IsChain m.tick (opening_of_run r) (steps_from 0 0 r.events.items)
 own_chain m t closed r =
-    let opening = r.boot.stamp.gtod +ℤ r.boot.stamp.offset in
+    let opening = opening_of_run r in
     let steps = ap (steps_on 0) (own_steps m t closed r) ∙ on_the_word r.events.items in
     let words : IsWordChain opening (word_steps r.events.items) = subst (IsWordChain opening) steps r.chain in
-    trace_chain m.tick opening 0 r.events.items words
-    (runs_raise m (start_of m r.boot.stamp) (known_by r.boot.seats) r.events.items r.after (home m r.boot r.booted) r.runs)
+    trace_chain m.tick opening opening 0 r.events.items words (own_raises m t closed r)
+
+-- at first the opening is all that was seen, and the word holds it
+sees_first : (opening : ℤ) → Sees opening opening opening
+sees_first opening = let same = above_same opening in record { low = omega (arith, ints, same); under = omega (arith, ints); high = omega (arith, ints, same) }
 
 histories : (m : Plan) (t : Trace) (closed : List Step) (r : IsRunOf m t closed) → HasLegalHistories m t
 histories m t closed r =
     let steps : List TraceStep = steps_from 0 0 r.events.items in
-    let opening = r.boot.stamp.gtod +ℤ r.boot.stamp.offset in
+    let opening = opening_of_run r in
     let chain = own_chain m t closed r in
     record {
       count = let one = one_thread m r.built in rw (r.histories, one.cpus) refl;
@@ -116,7 +130,7 @@ histories m t closed r =
                 ordered = steps;
                 all = same_list steps;
                 printed = r.steps;
-                sorted = rw r.steps (lines_sorted m.tick opening 0 0 r.events.items chain (script_calls 0 (words_of m) r.events.items r.script));
+                sorted = rw r.steps (lines_sorted m.tick opening opening 0 0 r.events.items chain (script_calls 0 (words_of m) r.events.items r.script) (own_raises m t closed r));
               };
               chain = chain;
             },
@@ -140,7 +154,7 @@ lawful m t closed r =
       once = rw (r.threads, r.histories, append-nil, append-nil, r.steps) (same_list _);
       seen =
           rw (r.cpu_of, r.threads, r.start_word)
-          (never_fall m.tick (r.boot.stamp.gtod +ℤ r.boot.stamp.offset) (r.boot.stamp.gtod +ℤ r.boot.stamp.offset) [] 0 r.events.items (omega (arith, ints)) (own_chain m t closed r), tt);
+          (never_fall m.tick (opening_of_run r) (opening_of_run r) [] 0 r.events.items (sees_first (opening_of_run r)) (own_chain m t closed r) (own_raises m t closed r), tt);
       opening = record {
         epoch_ticket = r.epoch_ticket ∙ ap (λ (p : Published). p.ticket) r.booted.epoch;
         epoch_cyc = rw (r.epoch_ticket, r.epoch_cyc, r.booted.epoch) refl;

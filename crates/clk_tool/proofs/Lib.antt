@@ -4,7 +4,9 @@ pub mod LawfulRun
 pub mod Making
 pub mod Numbers
 pub mod OneThread
+pub mod Opening
 pub mod ReadingWhole
+pub mod Rising
 pub mod RunBlocks
 pub mod RunHistory
 pub mod RunKeeping

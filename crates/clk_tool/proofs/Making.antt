@@ -40,7 +40,7 @@ site_is t r =
     ∙ ap (λ (z : ℤ). record { machine = machine_of t; cpu = 0; adjust = z; call = t.ctx.call }) r.adjust
 
 -- a call of clk_local keeps the context ready, where its seats stay sound
-pub ready_after : (v u : Thread) → IsReady v → Keeps (λ l s. s.latch ≡ l) v.ctx u.ctx → IsSound (machine_of v) v.ctx.tickets.now.total u.ctx.latch_seat.epoch u.ctx.time → IsReady u
+pub ready_after : (v u : Thread) → IsReady v → Keeps (λ l s. s.latch ≡ l) (λ s. s.epoch) v.ctx u.ctx → IsSound (machine_of v) v.ctx.tickets.now.total u.ctx.latch_seat.epoch u.ctx.time → IsReady u
 ready_after v u r k sound =
     let machine : machine_of u ≡ machine_of v = ap (λ (z : Site). z.machine) k.site in
     record {
@@ -52,7 +52,7 @@ ready_after v u r k sound =
       sound = rw (machine, k.tickets) sound;
     }
 
-pub stands_after : (v u : Thread) → Keeps (λ l s. s.latch ≡ l) v.ctx u.ctx → StandsOn v u
+pub stands_after : (v u : Thread) → Keeps (λ l s. s.latch ≡ l) (λ s. s.epoch) v.ctx u.ctx → StandsOn v u
 stands_after v u k = record { words = k.words; epochs = k.epochs; tickets = k.tickets; machine = ap (λ (z : Site). z.machine) k.site }
 
 -- a word whose events the seats showed, and which were kept then
@@ -173,6 +173,8 @@ next_call n t u is r =
         near = r.usable.near;
         tick_is = r.usable.tick_is;
         offset = r.usable.offset;
+        base = r.usable.base;
+        opening = r.usable.opening;
       };
       may_stamp = r.may_stamp;
       sound = r.sound;

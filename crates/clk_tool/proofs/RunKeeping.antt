@@ -26,11 +26,11 @@ pub record Fixed : Type 0 where
 abbrev pub fixed : View → Fixed
 fixed v = record { start = v.start; number = v.number; kind = v.kind; made = v.made; joined = v.joined; owns = v.pairs.owns }
 
-pair_fixed : (v pair : View) (tick_raw tick_gtod : ℤ) → FindsPair v tick_raw tick_gtod pair → fixed pair ≡ fixed v
+pub pair_fixed : (v pair : View) (tick_raw tick_gtod : ℤ) → FindsPair v tick_raw tick_gtod pair → fixed pair ≡ fixed v
 pair_fixed v pair tick_raw tick_gtod f = ap fixed f.second.finds.view_is ∙ ap fixed f.first.finds.view_is
 
 pub raised_fixed : (z : Site) (v w : Known) (raw : RawReading) (step : Step) → ShowsRaised z v raw step w → fixed w.view ≡ fixed v.view
-raised_fixed z v w raw step h = ap fixed h.raises.view_is ∙ pair_fixed v.view h.pair h.tick_raw h.tick_gtod h.finds
+raised_fixed z v w raw step h = ap fixed h.raises.makes.view_is ∙ pair_fixed v.view h.pair h.tick_raw h.tick_gtod h.finds
 
 pub shows_fixed : (m : Plan) (call : ℕ) (v : Known) (k : EventKind) (w : Known) → Shows m call v k w → fixed w.view ≡ fixed v.view
 shows_fixed m call v (Local raw tick_raw tick_gtod offset old new) w h = raised_fixed _ v w raw h.step h.raised

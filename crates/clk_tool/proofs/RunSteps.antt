@@ -1,7 +1,7 @@
--- The steps of a run: those of its events, each of which raises the word that it found.
-use Rattle.std.proofs.Common.{◌≡◌, ℕ, ℤ, ◌+◌, ◌+ℤ◌, List, [], ◌∷◌, ◌++◌, map, ap, ◌∙◌, sym, subst, refl, append_assoc, append-nil}
+-- The steps of a run: those of its events, each of which raises the word that it found, above the opening of the words.
+use Rattle.std.proofs.Common.{◌≡◌, ℕ, ℤ, ◌+◌, List, [], ◌∷◌, ◌++◌, map, ap, ◌∙◌, sym, subst, refl, append_assoc, append-nil}
 use Rattle.std.specs.List.{flat_map}
-use Rattle.clk_num.specs.Clamp.{raise, local_target, elapsed}
+use Rattle.clk_num.specs.Wrapping.{raise}
 use Rattle.clk_words.specs.declared.opening.Start.{Start}
 use Rattle.clk_words.specs.declared.kind.SeatKind.TheVariants.{Owner}
 use Rattle.clk_words.specs.declared.step.Step.{Step}
@@ -10,7 +10,10 @@ use Rattle.clk_words.specs.declared.step.Why.TheVariants.{Raise}
 use Rattle.clk_words.specs.declared.view.View.{View}
 use Rattle.clk_words.specs.Kinds.{cpu_of}
 use Rattle.clk_words.specs.Targets.{target}
-use Rattle.clk_words.specs.Histories.{steps_on, IsChain}
+use Rattle.clk_words.specs.Bounds.{IsClock}
+use Rattle.clk_words.specs.Histories.{opens_at, AllFollow, IsGlobalHistory, steps_on, IsChain}
+use Rattle.clk_words.specs.Told.{Raises}
+use Rattle.clk_words.proofs.Replay.{follow_back}
 use Rattle.clk_machine.specs.Plan.{Plan}
 use Rattle.clk_machine.specs.declared.reading.RawReading.{RawReading}
 use Rattle.clk_local.specs.Context.{Known}
@@ -21,7 +24,8 @@ use Rattle.clk_trace.specs.declared.event.EventKind.{EventKind}
 use Rattle.clk_trace.specs.declared.event.EventKind.TheVariants.{Local, Stamp, Update, Pause}
 use Rattle.clk_tool.specs.Running.{Shows, ShowsLocal, Runs, site}
 use Rattle.clk_tool.specs.Finishing.{Change, change_of, change_in}
-use Rattle.clk_tool.proofs.RunKeeping.{Fixed, fixed, shows_fixed}
+use Rattle.clk_tool.proofs.Rising.{IsUp, raise_is_up}
+use Rattle.clk_tool.proofs.RunKeeping.{Fixed, fixed, pair_fixed, shows_fixed}
 
 -- the seat is that of the owner of CPU 0, which was given first
 pub record IsHome (start : Start) (v : View) : Type 0 where
@@ -77,27 +81,58 @@ runs_mine m start v (e ∷ es) w home r =
     ∙ ap (λ (xs : List Step). xs ++ word_steps es) (shows_mine m start e.call v e.kind r.0 home r.1)
     ∙ append_assoc v.view.mine (word_steps_of e.call e.kind) (word_steps es)
 
--- a reading raises the word to its target
-abbrev pub RaisesKind : ℤ → EventKind → Type 0
-RaisesKind tick (Local raw tick_raw tick_gtod offset old new) = new ≡ raise old (local_target (tick_gtod +ℤ offset) (elapsed raw.ns tick_raw) tick)
-RaisesKind tick _ = Unit {0}
+-- a reading raises the word to its target, and the word goes up by it
+pub record RaisesTo (tick opening old new : ℤ) (why : Why) : Type 0 where
+  pub new_is : new ≡ raise old (target tick why)
+  pub up : IsUp opening old new
 
-abbrev pub AllRaise : ℤ → List Event → Type 0
-AllRaise tick [] = Unit {0}
-AllRaise tick (e ∷ es) = RaisesKind tick e.kind × AllRaise tick es
+abbrev pub RaisesKind : ℤ → ℤ → EventKind → Type 0
+RaisesKind tick opening (Local raw tick_raw tick_gtod offset old new) = RaisesTo tick opening old new (Raise raw.ns tick_raw tick_gtod offset)
+RaisesKind tick opening _ = Unit {0}
 
-shows_raise : (m : Plan) (start : Start) (call : ℕ) (v : Known) (k : EventKind) (w : Known) → IsHome start v.view → Shows m call v k w → RaisesKind start.tick k
+abbrev pub AllRaise : ℤ → ℤ → List Event → Type 0
+AllRaise tick opening [] = Unit {0}
+AllRaise tick opening (e ∷ es) = RaisesKind tick opening e.kind × AllRaise tick opening es
+
+-- what a step left is in the range of a clock word, by the history that its seat has then
+new_range : (v w : View) (s : Step) → Raises v s w → IsClock (opens_at v.start) s.new
+new_range v w s r = follows.0.range
+  where
+    legal : IsGlobalHistory v.start ((v.seen ++ r.makes.between) ++ s ∷ [])
+    legal = subst (λ (u : View). IsGlobalHistory u.start u.seen) r.makes.view_is r.makes.good.legal
+
+    follows : AllFollow v.start (v.seen ++ r.makes.between) (s ∷ [])
+    follows = follow_back v.start [] (v.seen ++ r.makes.between) (s ∷ []) legal
+
+shows_raise : (m : Plan) (start : Start) (call : ℕ) (v : Known) (k : EventKind) (w : Known) → IsHome start v.view → Shows m call v k w
+    → RaisesKind start.tick (opens_at start) k
 shows_raise m start call v (Local raw tick_raw tick_gtod offset old new) w home h =
     let is = h.raised.step_is in
+    let why : Why = Raise raw.ns tick_raw tick_gtod offset in
     let made : h.step.new ≡ raise h.step.old (target v.view.start.tick h.step.why) =
     ap (λ (s : Step). s.new) is ∙ ap (λ (y : Why). raise h.step.old (target v.view.start.tick y)) (sym (ap (λ (s : Step). s.why) is)) in
+    let new_is : new ≡ raise old (target start.tick why) =
     sym h.new_is ∙ made ∙ ap (λ (o : Start). raise h.step.old (target o.tick h.step.why)) home.start_is
-    ∙ ap (λ y. raise h.step.old (target start.tick y)) h.why_is ∙ ap (λ x. raise x (target start.tick (Raise raw.ns tick_raw tick_gtod offset))) h.old_is
+    ∙ ap (λ y. raise h.step.old (target start.tick y)) h.why_is ∙ ap (λ x. raise x (target start.tick why)) h.old_is in
+    let pair_start : h.raised.pair.start ≡ start =
+    ap (λ (f : Fixed). f.start) (pair_fixed v.view h.raised.pair h.raised.tick_raw h.raised.tick_gtod h.raised.finds) ∙ home.start_is in
+    let from : IsClock (opens_at start) old =
+    subst (λ x. IsClock (opens_at start) x) h.old_is (subst (λ (o : Start). IsClock (opens_at o) h.step.old) pair_start h.raised.raises.range) in
+    let to : IsClock (opens_at start) new =
+    subst (λ x. IsClock (opens_at start) x) h.new_is
+    (subst (λ (o : Start). IsClock (opens_at o) h.step.new) pair_start (new_range h.raised.pair w.view h.step h.raised.raises)) in
+    record {
+      new_is = new_is;
+      up =
+          subst (λ x. IsUp (opens_at start) old x) (sym new_is)
+          (raise_is_up (opens_at start) old (target start.tick why) from (subst (λ x. IsClock (opens_at start) x) new_is to));
+    }
 shows_raise m start call v (Stamp gtod_ticket gtod raw) w home h = tt
 shows_raise m start call v (Update p) w home h = tt
 shows_raise m start call v (Pause ticket count) w home h = tt
 
-pub runs_raise : (m : Plan) (start : Start) (v : Known) (es : List Event) (w : Known) → IsHome start v.view → Runs m v es w → AllRaise start.tick es
+pub runs_raise : (m : Plan) (start : Start) (v : Known) (es : List Event) (w : Known) → IsHome start v.view → Runs m v es w
+    → AllRaise start.tick (opens_at start) es
 runs_raise m start v [] w home r = tt
 runs_raise m start v (e ∷ es) w home r = (
   shows_raise m start e.call v e.kind r.0 home r.1,
@@ -117,18 +152,19 @@ on_the_word [] = refl
 on_the_word (e ∷ es) = on_each e.call e.kind (word_steps es) (on_the_word es)
 
 -- a chain of the words' steps is one of the trace's
-chain_each : (tick x : ℤ) (call part : ℕ) (k : EventKind) (es : List Event) → IsChain x (word_steps_of call k ++ word_steps es) → RaisesKind tick k
+chain_each : (tick opening x : ℤ) (call part : ℕ) (k : EventKind) (es : List Event) → IsChain x (word_steps_of call k ++ word_steps es) → RaisesKind tick opening k
     → ((y : ℤ) → IsChain y (word_steps es) → IsTraceChain tick y (steps_from 0 (part + 1) es)) → IsTraceChain tick x (steps_of_kind 0 call part k ++ steps_from 0 (part + 1) es)
-chain_each tick x call part (Local raw tick_raw tick_gtod offset old new) es chain raises later =
-    (chain.0, subst (λ y. new ≡ raise y (local_target (tick_gtod +ℤ offset) (elapsed raw.ns tick_raw) tick)) chain.0 raises, later new chain.1)
-chain_each tick x call part (Stamp gtod_ticket gtod raw) es chain raises later = later x chain
-chain_each tick x call part (Update p) es chain raises later = later x chain
-chain_each tick x call part (Pause ticket count) es chain raises later = later x chain
+chain_each tick opening x call part (Local raw tick_raw tick_gtod offset old new) es chain raises later =
+    (chain.0, subst (λ y. new ≡ raise y (target tick (Raise raw.ns tick_raw tick_gtod offset))) chain.0 raises.new_is, later new chain.1)
+chain_each tick opening x call part (Stamp gtod_ticket gtod raw) es chain raises later = later x chain
+chain_each tick opening x call part (Update p) es chain raises later = later x chain
+chain_each tick opening x call part (Pause ticket count) es chain raises later = later x chain
 
-pub trace_chain : (tick x : ℤ) (part : ℕ) (es : List Event) → IsChain x (word_steps es) → AllRaise tick es → IsTraceChain tick x (steps_from 0 part es)
-trace_chain tick x part [] chain raises = tt
-trace_chain tick x part (e ∷ es) chain raises =
-    chain_each tick x e.call part e.kind es chain raises.0 (λ y later. trace_chain tick y (part + 1) es later raises.1)
+pub trace_chain : (tick opening x : ℤ) (part : ℕ) (es : List Event) → IsChain x (word_steps es) → AllRaise tick opening es
+    → IsTraceChain tick x (steps_from 0 part es)
+trace_chain tick opening x part [] chain raises = tt
+trace_chain tick opening x part (e ∷ es) chain raises =
+    chain_each tick opening x e.call part e.kind es chain raises.0 (λ y later. trace_chain tick opening y (part + 1) es later raises.1)
 
 -- and its lines show the same changes
 changes_each : (call part : ℕ) (k : EventKind) (es : List Event) → map change_of (word_steps es) ≡ map change_in (map (λ s. s.line) (steps_from 0 (part + 1) es))

@@ -1,5 +1,5 @@
 -- Sound seats stay sound.
-use Rattle.std.proofs.Common.{◌≡◌, ℕ, ℤ, ◌^◌, ◌<◌, pos, refl, List, [], ◌∷◌, ap, ◌∙◌, sym, subst}
+use Rattle.std.proofs.Common.{◌≡◌, ℕ, ℤ, ◌^◌, ◌<◌, pos, refl, get_or, List, [], ◌∷◌, ap, ◌∙◌, sym, subst}
 use Rattle.clk_base.specs.declared.block.Block.{Block}
 use Rattle.std.proofs.lemmas.List.Elements.{All-nil}
 use Rattle.clk_base.specs.Blocks.{times_in}
@@ -12,10 +12,14 @@ use Rattle.clk_words.specs.declared.step.Step.{Step}
 use Rattle.clk_latch.specs.Epoch.{Epoch, owner_of}
 use Rattle.clk_latch.specs.Calls.{AreDrawn, DrawsTicket, Reads, Updates}
 use Rattle.clk_latch.proofs.Staying.{stay_drawn}
-use Rattle.clk_local.specs.Context.{Known}
+use Rattle.clk_local.specs.Context.{Known, BeginsAtBase}
 use Rattle.clk_local.specs.Shows.{ShowsRaised, ShowsStamp}
 use Rattle.clk_tool.specs.Running.{IsSound, site}
 use Rattle.clk_tool.specs.Booting.{HasEpoch}
+
+-- the records of a counter begin with the machine's base
+pub sound_base : (m : Plan) (cpu : ℕ) (adjust : ℤ) (epoch : Epoch) → AreRecords m cpu adjust epoch.records → BeginsAtBase m epoch
+sound_base m cpu adjust epoch r = record { zero = λ d. ap (λ ps. (get_or ps 0 d).ns) r.all }
 
 -- after a draw
 pub draws_sound : (m : Plan) (total : ℕ) (epoch : Epoch) (t after : Time) (first n : ℕ) → IsSound m total epoch t → Draws t first n after → IsSound m total epoch after

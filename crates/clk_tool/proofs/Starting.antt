@@ -1,12 +1,15 @@
 -- The boot leaves what the run of a script needs.
-use Rattle.std.proofs.Common.{◌≡◌, true, List, ap, ◌∙◌, sym, subst, refl, arith}
+use Rattle.std.proofs.Common.{◌≡◌, true, pos, ◌^◌, List, ap, ◌∙◌, sym, subst, refl, arith}
+use Rattle.clk_num.specs.Range.{IsFrom0To}
 use Rattle.clk_words.specs.declared.opening.Start.{Start}
 use Rattle.clk_words.specs.declared.view.View.{View}
 use Rattle.clk_words.specs.Held.{Held, place_of}
+use Rattle.clk_words.specs.Histories.{opens_at}
 use Rattle.clk_words.specs.Knowing.{HasFoundPerCpu}
 use Rattle.clk_words.specs.Views.{first_view, given_view}
 use Rattle.clk_words.specs.declared.kind.SeatKind.TheVariants.{Owner}
 use Rattle.clk_machine.specs.Plan.{Plan}
+use Rattle.clk_machine.specs.Records.{above_base}
 use Rattle.clk_local.specs.Context.{Known, MayStamp}
 use Rattle.clk_trace.specs.declared.event.Event.{Event}
 use Rattle.clk_trace.specs.declared.trace.StableStamp.{StableStamp}
@@ -19,6 +22,7 @@ use Rattle.clk_tool.proofs.OneThread.{one_thread, tickets_few, updates_few}
 use Rattle.clk_tool.proofs.RunKeeping.{Fixed, fixed, runs_fixed}
 use Rattle.clk_tool.proofs.RunSteps.{IsHome}
 use Rattle.clk_tool.proofs.RunPairs.{EndsWith}
+use Rattle.clk_tool.proofs.Sounding.{sound_base}
 
 -- the owner's view at first
 abbrev pub owner_view : Plan → StableStamp → View
@@ -64,6 +68,8 @@ may_run b built h =
       tickets = h.stamped.table;
       kind = ap (λ (x : Held). x.view.kind) h.owner;
       found = subst HasFoundPerCpu (sym (owner_is m b h)) refl;
+      base = sound_base m 0 (pos 0) b.seats.latch.epoch h.stamped.sound.records;
+      opening = subst (λ (v : View). IsFrom0To (2 ^ 57) (above_base m (opens_at v.start))) (sym (owner_is m b h)) h.stamped.near;
       may_stamp = subst MayStamp (sym (owner_is m b h)) (stamps_first m b.stamp);
       sound = subst (λ n. IsSound m n b.seats.latch.epoch b.seats.time) (sym h.total) h.stamped.sound;
       enough = record { tickets = omega (arith, tickets, left); updates = omega (arith, updates, budget) };

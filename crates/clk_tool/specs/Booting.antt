@@ -1,14 +1,17 @@
 -- What the boot leaves.
 use Rattle.std.specs.Prelude.{◌≡◌, ◌+◌, ◌^◌, ◌-ℤ◌, [], ◌∷◌}
+use Rattle.clk_num.specs.Range.{IsFrom0To}
+use Rattle.clk_num.specs.Wrapping.{wrap}
 use Rattle.clk_ticket.specs.Time.{Tickets, Time, Draws, fresh}
 use Rattle.clk_words.specs.declared.kind.SeatKind.TheVariants.{Owner}
 use Rattle.clk_words.specs.declared.opening.Mode.TheVariants.{PerCpu}
+use Rattle.clk_words.specs.declared.opening.Opening.{Opening}
 use Rattle.clk_words.specs.declared.opening.Start.{Start}
-use Rattle.clk_words.specs.Bounds.{IsGtod, IsRaw}
+use Rattle.clk_words.specs.Bounds.{opens_of, IsOpening}
 use Rattle.clk_words.specs.Views.{first_view, giver_view, given_view}
 use Rattle.clk_machine.specs.Plan.{Plan}
 use Rattle.clk_machine.specs.Limits.{IsWithinLimits}
-use Rattle.clk_machine.specs.Records.{record_zero}
+use Rattle.clk_machine.specs.Records.{record_zero, above_base}
 use Rattle.clk_latch.specs.Epoch.{Epoch}
 use Rattle.clk_local.specs.Context.{Known}
 use Rattle.clk_trace.specs.TicketOrder.{boot_blocks}
@@ -22,7 +25,11 @@ use Rattle.clk_tool.specs.declared.boot.Seats.{Seats}
 abbrev pub HasEpoch : Tickets → Time → Type 0
 HasEpoch tickets time = Draws (fresh tickets.table (2 ^ 24) 0) 0 1 time
 
--- the stamp drew the next two tickets, by record 0
+-- the clock words open by a stamp
+abbrev pub opening_of : StableStamp → Opening
+opening_of s = record { mode = PerCpu; offset = s.offset; tick_gtod = s.gtod; tick_raw = s.raw.ns }
+
+-- the stamp drew the next two tickets, by record 0; the words that open by it open near the machine's base
 pub record HasStamped (m : Plan) (tickets : Tickets) (time : Time) (epoch : Epoch) (stamp : StableStamp) : Type 0 where
   pub right : IsRightStamp m stamp
   pub table : time.table ≡ tickets.table
@@ -31,18 +38,13 @@ pub record HasStamped (m : Plan) (tickets : Tickets) (time : Time) (epoch : Epoc
   pub records : epoch.records ≡ record_zero m ∷ []
   pub updates : epoch.left ≡ 1024
   pub sound : IsSound m (2 ^ 24) epoch time
-  pub offset : stamp.offset ≡ stamp.raw.ns -ℤ stamp.gtod
-  pub gtod_bound : IsGtod stamp.gtod
-  pub raw_bound : IsRaw stamp.raw.ns
-  pub offset_bound : IsRaw stamp.offset
+  pub offset : stamp.offset ≡ wrap (stamp.raw.ns -ℤ stamp.gtod)
+  pub opening : IsOpening (opening_of stamp)
+  pub near : IsFrom0To (2 ^ 57) (above_base m (opens_of (opening_of stamp)))
 
--- the clock words begin by the stamp
+-- what the words begin with
 abbrev pub start_of : Plan → StableStamp → Start
-start_of m s = record {
-  cpus = 1;
-  tick = m.tick;
-  opening = record { mode = PerCpu; offset = s.offset; tick_gtod = s.gtod; tick_raw = s.raw.ns };
-}
+start_of m s = record { cpus = 1; tick = m.tick; opening = opening_of s }
 
 pub record IsBooted (m : Plan) (b : Boot) : Type 0 where
   pub limits : IsWithinLimits m

@@ -2,6 +2,8 @@
 use Rattle.std.specs.Prelude.{◌≡◌, ◌^◌, true, ℤ, pos, ◌+ℤ◌, List, [], ◌∷◌, map}
 use Rattle.clk_base.specs.Blocks.{Covers}
 use Rattle.clk_num.specs.Listed.{Listed}
+use Rattle.clk_num.specs.Range.{IsFrom0To}
+use Rattle.clk_num.specs.Wrapping.{wrap}
 use Rattle.clk_words.specs.declared.kind.SeatKind.TheVariants.{Owner}
 use Rattle.clk_words.specs.declared.opening.Mode.TheVariants.{PerCpu}
 use Rattle.clk_words.specs.declared.step.Step.{Step}
@@ -11,7 +13,8 @@ use Rattle.clk_words.specs.Knowing.{HasFoundPerCpu}
 use Rattle.clk_words.specs.Histories.{opens_at, steps_on, IsChain}
 use Rattle.clk_machine.specs.Plan.{Plan}
 use Rattle.clk_machine.specs.Limits.{IsWithinLimits}
-use Rattle.clk_local.specs.Context.{Known, MayStamp}
+use Rattle.clk_machine.specs.Records.{above_base}
+use Rattle.clk_local.specs.Context.{Known, BeginsAtBase, MayStamp}
 use Rattle.clk_trace.specs.ScriptEvents.{AreEventsOf}
 use Rattle.clk_trace.specs.WordHistory.{steps_from}
 use Rattle.clk_trace.specs.LawfulTrace.{EachFrom}
@@ -37,6 +40,8 @@ pub record MayRun (s : Shared) (v : Seats) : Type 0 where
   pub tickets : v.time.table ≡ s.tickets.table
   pub kind : v.owner.view.kind ≡ Owner 0
   pub found : HasFoundPerCpu v.owner.view
+  pub base : BeginsAtBase s.machine v.latch.epoch
+  pub opening : IsFrom0To (2 ^ 57) (above_base s.machine (opens_at v.owner.view.start))
   pub may_stamp : MayStamp v.owner.view
   pub sound : IsSound s.machine s.tickets.total v.latch.epoch v.time
   pub enough : HasEnough s.machine (known_by v)
@@ -98,7 +103,7 @@ pub record IsRunOf (m : Plan) (t : Trace) (closed : List Step) : Type 0 where
   pub starts : t.starts ≡ PerCpu
   pub sched_offset : t.sched_offset ≡ pos 0
   pub gtod_offset : t.gtod_offset ≡ boot.stamp.offset
-  pub start_word : t.start_word ≡ boot.stamp.gtod +ℤ boot.stamp.offset
+  pub start_word : t.start_word ≡ wrap (boot.stamp.gtod +ℤ boot.stamp.offset)
   pub cpu_of : t.cpu_of.items ≡ 0 ∷ []
   pub threads : t.threads.items ≡ events ∷ []
   pub histories : t.histories.items ≡ history ∷ []

@@ -28,7 +28,7 @@ pub record Serves {E S : Type 0} (fits : E → S → Type 0) (epoch : S → Epoc
   pub limits : IsWithinLimits ctx.counter.machine.now
   pub cpu : ctx.counter.cpu ≡ 0
   pub adjust : ctx.counter.adjust ≡ pos 0
-  pub usable : IsUsable fits ctx
+  pub usable : IsUsable fits epoch ctx
   pub may_stamp : MayStamp ctx.seat.view
   pub sound : IsSound ctx.counter.machine.now ctx.tickets.now.total (epoch ctx.latch_seat) ctx.time
 

@@ -75,7 +75,9 @@ pub fn boot_machine(alloc: Global, machine: Machine) -> Result<Boot, AllocError>
     })
 }
 
-/// Record 0: the counter of CPU 0 at the first ticket, which is ticket 0, since all tickets were left before.
+/// Record 0: the counter of CPU 0 at the first ticket, which is ticket 0, since all tickets were left before, and the base
+/// of the machine's clocks in ns.
+#[tactic(auto, unfolding(clk_machine::specs::Records::base_of))]
 fn read_epoch(machine: &Machine, tickets: &TicketTable, time: &mut TimeSeat) -> Published
     requires limits { IsWithinLimits machine.now }
     requires time { time.old ≡ fresh tickets.now.table (2 ^ 24) 0 }
@@ -91,7 +93,7 @@ fn read_epoch(machine: &Machine, tickets: &TicketTable, time: &mut TimeSeat) -> 
     }
 }
 
-/// The stamp of the boot, by record 0.
+/// The stamp of the boot, by record 0. Its offset wraps, and takes its monotonic time to its raw reading.
 fn first_stamp(
     machine: &Machine,
     tickets: &TicketTable,
@@ -118,6 +120,6 @@ fn first_stamp(
         gtod_ticket,
         gtod,
         raw,
-        offset: raw.ns - gtod,
+        offset: raw.ns.wrapping_sub(gtod),
     }
 }

@@ -11,7 +11,7 @@
 //! - The runner makes the boot and the script of the one CPU on the calling thread, by its seats at the ticket table, the
 //!   latch and the clock words that threads share: so the trace's last number, its readings and its histories are what
 //!   these tables answered. As in Linux 6.1's `kernel/sched/clock.c` with a per-CPU clock, ticks stamp, and readings
-//!   never fall and never pass the end of their tick.
+//!   never fall and never pass the end of their tick, by the sign of a difference: clock values wrap at 64 bits.
 //!
 //! No call waits, and all return.
 #![tactic(auto)]

@@ -27,23 +27,26 @@ fn run(alloc: Global, line: &str) -> Result<(Status, Vec<u8>), AllocError> {
     Ok((status, Vec::from_slice(alloc, sink.bytes().items())?))
 }
 
+// Command lines, and what they write.
+const RATES: [(&str, &str); 4] = [
+    (
+        "rate 1000000000 64",
+        "mult 2097152\nshift 21\nwrap 4398046511103\n",
+    ),
+    (
+        "rate 24000000 56",
+        "mult 87381333\nshift 21\nwrap 4398046511097\n",
+    ),
+    (
+        "rate 2400000000 64",
+        "mult 1747627\nshift 22\nwrap 2199023255551\n",
+    ),
+    ("rate 1 8", "mult 4000000000\nshift 2\nwrap 127500000000\n"),
+];
+
 #[test]
 fn rates_are_those_of_the_worked_rows(rt: HostRuntime) -> Result<(), Fail> {
-    for (line, want) in [
-        (
-            "rate 1000000000 64",
-            "mult 2097152\nshift 21\nwrap 4398046511103\n",
-        ),
-        (
-            "rate 24000000 56",
-            "mult 87381333\nshift 21\nwrap 4398046511097\n",
-        ),
-        (
-            "rate 2400000000 64",
-            "mult 1747627\nshift 22\nwrap 2199023255551\n",
-        ),
-        ("rate 1 8", "mult 4000000000\nshift 2\nwrap 127500000000\n"),
-    ] {
+    for (line, want) in RATES {
         let (status, written) = run(rt.alloc(), line)?;
         assert_eq!(rt; status, Status::Done, "at {line}");
         assert_eq!(rt; written.as_slice(), want.as_bytes(), "at {line}");
@@ -51,28 +54,32 @@ fn rates_are_those_of_the_worked_rows(rt: HostRuntime) -> Result<(), Fail> {
     Ok(())
 }
 
+// Command lines at the edges of the forms, and their answers.
+const LINES: [(&str, Status); 16] = [
+    ("rate 0 64", Status::Usage),
+    ("rate 01 64", Status::Usage),
+    ("rate +1 64", Status::Usage),
+    ("rate 4294967296 64", Status::Usage),
+    ("rate 4294967295 64", Status::Done),
+    ("rate 5 0", Status::Usage),
+    ("rate 5 1", Status::Done),
+    ("rate 5 65", Status::Usage),
+    ("rate 5 0x8", Status::Usage),
+    ("rate 5 64 64", Status::Usage),
+    ("rate 5", Status::Usage),
+    ("Rate 5 64", Status::Usage),
+    ("run x", Status::Usage),
+    ("Run", Status::Usage),
+    ("--help", Status::Usage),
+    ("", Status::Usage),
+];
+
 #[test]
-fn words_beside_the_range_are_usage(rt: HostRuntime) -> Result<(), Fail> {
-    for line in [
-        "rate 0 64",
-        "rate 01 64",
-        "rate +1 64",
-        "rate 4294967296 64",
-        "rate 5 0",
-        "rate 5 65",
-        "rate 5 0x8",
-        "rate 5 64 64",
-        "Rate 5 64",
-        "run x",
-        "",
-    ] {
+fn words_beside_the_forms_are_usage(rt: HostRuntime) -> Result<(), Fail> {
+    for (line, want) in LINES {
         let (status, written) = run(rt.alloc(), line)?;
-        assert_eq!(rt; status, Status::Usage, "at {line}");
-        assert!(rt; written.is_empty(), "at {line}");
-    }
-    for line in ["rate 4294967295 64", "rate 5 1"] {
-        let (status, _) = run(rt.alloc(), line)?;
-        assert_eq!(rt; status, Status::Done, "at {line}");
+        assert_eq!(rt; status, want, "at {line}");
+        assert_eq!(rt; written.is_empty(), want == Status::Usage, "at {line}");
     }
     Ok(())
 }

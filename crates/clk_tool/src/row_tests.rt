@@ -40,159 +40,226 @@ fn run<G: Gate>(alloc: Global, text: &str, gate: &G) -> Result<(Status, Vec<u8>)
     Ok((status, Vec::from_slice(alloc, sink.bytes().items())?))
 }
 
+// The same, of a file of one CPU at 1 GHz.
+fn run_file(
+    alloc: Global,
+    step: &str,
+    tick: &str,
+    script: &str,
+) -> Result<(Status, Vec<u8>), AllocError> {
+    let text = file(alloc, step, tick, script)?;
+    run(alloc, text.as_str(), &OpenGate)
+}
+
+// Runs the program over a text that is refused, and answers its status; where it wrote anything, that is `Done`.
+fn refused(alloc: Global, text: &str) -> Result<Status, AllocError> {
+    let (status, written) = run(alloc, text, &OpenGate)?;
+    Ok(if written.is_empty() {
+        status
+    } else {
+        Status::Done
+    })
+}
+
+// The same, of a text in two parts.
+fn refused_parts(alloc: Global, head: &str, rest: &str) -> Result<Status, AllocError> {
+    let text = format!(in alloc; "{head}{rest}\n")?;
+    refused(alloc, text.as_str())
+}
+
+// The step and the tick of a file are out of range.
+const STEP: Status = Status::Refused(Refusal::Value(Place {
+    row: 3,
+    entry: 0,
+    item: 0,
+}));
+
+const TICK: Status = Status::Refused(Refusal::Value(Place {
+    row: 4,
+    entry: 0,
+    item: 0,
+}));
+
+// Whether these bytes are one text and then another.
+fn is_after(head: &str, rest: &str, bytes: &[u8]) -> bool {
+    bytes.strip_prefix(head.as_bytes()) == Some(rest.as_bytes())
+}
+
+// Scripts, and what follows the head of their traces.
+const TRACES: [(&str, &str); 7] = [
+    (
+        "\"local\"",
+        "0 local 3 30 0 30 20 10 10 20 30\nhistory 0 1\n0 0 20 30\nend 4\n",
+    ),
+    (
+        "\"local\", \"tick\"",
+        "0 local 3 30 0 30 20 10 10 20 30\n1 stamp 4 40 5 50 0 50\n1 local 6 60 0 60 50 40 10 30 60\nhistory 0 2\n0 0 20 30\n0 1 30 60\nend 7\n",
+    ),
+    (
+        "\"local\", \"tick\", \"pause 200000\", \"local\"",
+        "0 local 3 30 0 30 20 10 10 20 30\n1 stamp 4 40 5 50 0 50\n1 local 6 60 0 60 50 40 10 30 60\n2 pause 7 200000\n3 local 200007 2000070 0 2000070 50 40 10 60 1000050\nhistory 0 3\n0 0 20 30\n0 1 30 60\n0 3 60 1000050\nend 200008\n",
+    ),
+    (
+        "\"update\", \"local\"",
+        "0 update 1 3 30 30\n1 local 4 40 1 40 20 10 10 20 40\nhistory 0 1\n0 1 20 40\nend 5\n",
+    ),
+    (
+        "\"update\", \"update\", \"local\"",
+        "0 update 1 3 30 30\n1 update 2 4 40 40\n2 local 5 50 2 50 20 10 10 20 50\nhistory 0 1\n0 2 20 50\nend 6\n",
+    ),
+    (
+        "\"idle\"",
+        "0 local 3 30 0 30 20 10 10 20 30\n0 stamp 4 40 5 50 0 50\n0 local 6 60 0 60 50 40 10 30 60\nhistory 0 2\n0 0 20 30\n0 0 30 60\nend 7\n",
+    ),
+    ("", "history 0 0\nend 3\n"),
+];
+
 #[test]
 fn traces_are_those_of_the_worked_runs(rt: HostRuntime) -> Result<(), Fail> {
-    for (script, rest) in [
-        (
-            "\"local\"",
-            "0 local 3 30 0 30 20 10 10 20 30\nhistory 0 1\n0 0 20 30\nend 4\n",
-        ),
-        (
-            "\"local\", \"tick\"",
-            "0 local 3 30 0 30 20 10 10 20 30\n1 stamp 4 40 5 50 0 50\n1 local 6 60 0 60 50 40 10 30 60\nhistory 0 2\n0 0 20 30\n0 1 30 60\nend 7\n",
-        ),
-        (
-            "\"local\", \"tick\", \"pause 200000\", \"local\"",
-            "0 local 3 30 0 30 20 10 10 20 30\n1 stamp 4 40 5 50 0 50\n1 local 6 60 0 60 50 40 10 30 60\n2 pause 7 200000\n3 local 200007 2000070 0 2000070 50 40 10 60 1000050\nhistory 0 3\n0 0 20 30\n0 1 30 60\n0 3 60 1000050\nend 200008\n",
-        ),
-        (
-            "\"update\", \"local\"",
-            "0 update 1 3 30 30\n1 local 4 40 1 40 20 10 10 20 40\nhistory 0 1\n0 1 20 40\nend 5\n",
-        ),
-        (
-            "\"update\", \"update\", \"local\"",
-            "0 update 1 3 30 30\n1 update 2 4 40 40\n2 local 5 50 2 50 20 10 10 20 50\nhistory 0 1\n0 2 20 50\nend 6\n",
-        ),
-        (
-            "\"idle\"",
-            "0 local 3 30 0 30 20 10 10 20 30\n0 stamp 4 40 5 50 0 50\n0 local 6 60 0 60 50 40 10 30 60\nhistory 0 2\n0 0 20 30\n0 0 30 60\nend 7\n",
-        ),
-        ("", "history 0 0\nend 3\n"),
-    ] {
-        let text = file(rt.alloc(), "10", "1000000", script)?;
-        let (status, written) = run(rt.alloc(), text.as_str(), &OpenGate)?;
-        let want = format!(in rt.alloc(); "{HEAD}{rest}")?;
+    for (script, rest) in TRACES {
+        let (status, written) = run_file(rt.alloc(), "10", "1000000", script)?;
         assert_eq!(rt; status, Status::Done);
-        assert_eq!(rt; written.as_slice(), want.as_bytes());
+        assert!(rt; is_after(HEAD, rest, written.as_slice()), "at {script}");
     }
     Ok(())
 }
 
-/// A refused value.
-fn refused_value(row: u32, entry: u32, item: u32) -> Status {
-    Status::Refused(Refusal::Value(Place { row, entry, item }))
-}
+// The rate in kHz, further lines, lines of the CPU and the script of a file, and what follows the first two lines of its
+// trace.
+const COUNTERS: [(&str, &str, &str, &str, &str); 3] = [
+    (
+        "2400000",
+        "",
+        "",
+        "\"local\"",
+        "boot 1 10 2 48 0 20\nstart percpu 0 10\nword 0 20\nthread 0 0\n0 local 3 72 0 30 20 10 10 20 30\nhistory 0 1\n0 0 20 30\nend 4\n",
+    ),
+    (
+        "1000000",
+        "delay = [{ ticket = 3, ns = 5 }]",
+        "",
+        "\"local\"",
+        "boot 1 10 2 20 0 20\nstart percpu 0 10\nword 0 20\nthread 0 0\n0 local 3 35 0 35 20 10 10 20 35\nhistory 0 1\n0 0 20 35\nend 4\n",
+    ),
+    (
+        "1000000",
+        "",
+        "jumps = [[35, -30]]",
+        "\"local\", \"remote 0\"",
+        "boot 1 10 2 20 0 20\nstart percpu 0 10\nword 0 20\nthread 0 0\n0 local 3 30 0 30 20 10 10 20 30\n1 local 4 10 0 10 20 10 10 30 30\nhistory 0 2\n0 0 20 30\n0 1 30 30\nend 5\n",
+    ),
+];
 
-/// A file of one local reading, with other numbers.
-fn changed(
+// Runs a file with other numbers.
+fn run_changed(
     alloc: Global,
     khz: &str,
     more: &str,
     cpu: &str,
     script: &str,
-) -> Result<String, AllocError> {
-    format!(in alloc;
+) -> Result<(Status, Vec<u8>), AllocError> {
+    let text = format!(in alloc;
         "version = 1\ncpus = 1\nstep = 10\nnominal_khz = {khz}\nstable = false\n{more}\n[reference]\nkhz = 1000000\n[[cpu]]\n{cpu}\nscript = [{script}]\n"
-    )
+    )?;
+    run(alloc, text.as_str(), &OpenGate)
 }
 
 #[test]
 fn counters_are_those_of_the_file(rt: HostRuntime) -> Result<(), Fail> {
-    let start = "start percpu 0 10\nword 0 20\nthread 0 0\n";
-    let one = "\"local\"";
-    let delay = "delay = [{ ticket = 3, ns = 5 }]";
-    let jump = "jumps = [[35, -30]]";
-    let faster =
-        "boot 1 10 2 48 0 20\nstart percpu 0 10\nword 0 20\nthread 0 0\n0 local 3 72 0 30 20 10 10 20 30\nhistory 0 1\n0 0 20 30\nend 4\n";
-    let delayed = format!(in rt.alloc();
-        "boot 1 10 2 20 0 20\n{start}0 local 3 35 0 35 20 10 10 20 35\nhistory 0 1\n0 0 20 35\nend 4\n"
-    )?;
-    let back = format!(in rt.alloc();
-        "boot 1 10 2 20 0 20\n{start}0 local 3 30 0 30 20 10 10 20 30\n1 local 4 10 0 10 20 10 10 30 30\nhistory 0 2\n0 0 20 30\n0 1 30 30\nend 5\n"
-    )?;
-    for (khz, more, cpu, script, want) in [
-        ("2400000", "", "", one, faster),
-        ("1000000", delay, "", one, delayed.as_str()),
-        (
-            "1000000",
-            "",
-            jump,
-            "\"local\", \"remote 0\"",
-            back.as_str(),
-        ),
-    ] {
-        let text = changed(rt.alloc(), khz, more, cpu, script)?;
-        let (status, written) = run(rt.alloc(), text.as_str(), &OpenGate)?;
-        let want = format!(in rt.alloc(); "trace 1\nepoch 0 0\n{want}")?;
+    for (khz, more, cpu, script, rest) in COUNTERS {
+        let (status, written) = run_changed(rt.alloc(), khz, more, cpu, script)?;
         assert_eq!(rt; status, Status::Done);
-        assert_eq!(rt; written.as_slice(), want.as_bytes());
+        assert!(rt;
+            is_after("trace 1\nepoch 0 0\n", rest, written.as_slice()),
+            "at {script}"
+        );
     }
     Ok(())
 }
+
+const UNBUILT: [&str; 6] = [
+    "cpus = 2\nstable = false\ncpu = [{}, {}]",
+    "cpus = 1\nstable = false\ncpu = [{}]\nreader = [{ cpu = 0 }]",
+    "cpus = 1\nstable = false\ncpu = [{}]\nbringup = { adjust = true, timeout_us = 0, turns = 0 }",
+    "cpus = 1\nstable = false\ncpu = [{}]\nwatchdog = { checks = 0, pause = 1, skew = 0, retries = 0 }",
+    "cpus = 1\nstable = false\ncpu = [{}]\nsource = [{ rating = 1, margin = 0, nominal_khz = 1000 }]",
+    "cpus = 1\nstable = true\ncpu = [{}]",
+];
 
 #[test]
 fn forms_that_are_not_built_are_refused_last(rt: HostRuntime) -> Result<(), Fail> {
     let head = "version = 1\nstep = 10\nnominal_khz = 1000000\nreference.khz = 1000000\n";
-    for form in [
-        "cpus = 2\nstable = false\ncpu = [{}, {}]",
-        "cpus = 1\nstable = false\ncpu = [{}]\nreader = [{ cpu = 0 }]",
-        "cpus = 1\nstable = false\ncpu = [{}]\nbringup = { adjust = true, timeout_us = 0, turns = 0 }",
-        "cpus = 1\nstable = false\ncpu = [{}]\nwatchdog = { checks = 0, pause = 1, skew = 0, retries = 0 }",
-        "cpus = 1\nstable = false\ncpu = [{}]\nsource = [{ rating = 1, margin = 0, nominal_khz = 1000 }]",
-        "cpus = 1\nstable = true\ncpu = [{}]",
-    ] {
-        let text = format!(in rt.alloc(); "{head}{form}\n")?;
-        let (status, written) = run(rt.alloc(), text.as_str(), &OpenGate)?;
-        assert_eq!(rt; status, Status::Refused(Refusal::Unbuilt));
-        assert!(rt; written.is_empty());
-        let wrong = format!(in rt.alloc(); "tick = 0\n{head}{form}\n")?;
-        let (status, _) = run(rt.alloc(), wrong.as_str(), &OpenGate)?;
-        assert_eq!(rt; status, refused_value(4, 0, 0));
+    let wrong =
+        "tick = 0\nversion = 1\nstep = 10\nnominal_khz = 1000000\nreference.khz = 1000000\n";
+    for form in UNBUILT {
+        assert_eq!(rt;
+            refused_parts(rt.alloc(), head, form)?,
+            Status::Refused(Refusal::Unbuilt)
+        );
+        assert_eq!(rt; refused_parts(rt.alloc(), wrong, form)?, TICK);
     }
     Ok(())
 }
 
+// The longest pause that there are tickets for.
+const MOST: &str = "\"pause 16777213\"";
+
+// The step, the tick and the script of a file at a limit, and the answer.
+const LIMITS: [(&str, &str, &str, Status); 9] = [
+    ("10", "1000000", MOST, Status::Done),
+    (
+        "10",
+        "1000000",
+        "\"pause 16777214\"",
+        Status::Refused(Refusal::Tickets { needed: 16_777_217 }),
+    ),
+    (
+        "10",
+        "1000000",
+        "\"pause 0\"",
+        Status::Refused(Refusal::Value(Place {
+            row: 18,
+            entry: 1,
+            item: 1,
+        })),
+    ),
+    ("1", "1", "\"tick\"", Status::Done),
+    ("16384", "1073741824", "\"tick\"", Status::Done),
+    ("0", "1", "", STEP),
+    ("16385", "1", "", STEP),
+    ("1", "0", "", TICK),
+    ("1", "1073741825", "", TICK),
+];
+
 #[test]
 fn limits_are_those_of_the_format(rt: HostRuntime) -> Result<(), Fail> {
-    let step_value = refused_value(3, 0, 0);
-    let tick_value = refused_value(4, 0, 0);
-    let needed = 16_777_217;
-    for (step, tick, script, want) in [
-        ("10", "1000000", "\"pause 16777213\"", Status::Done),
-        (
-            "10",
-            "1000000",
-            "\"pause 16777214\"",
-            Status::Refused(Refusal::Tickets { needed }),
-        ),
-        ("10", "1000000", "\"pause 0\"", refused_value(18, 1, 1)),
-        ("1", "1", "\"tick\"", Status::Done),
-        ("16384", "1073741824", "\"tick\"", Status::Done),
-        ("0", "1", "", step_value),
-        ("16385", "1", "", step_value),
-        ("1", "0", "", tick_value),
-        ("1", "1073741825", "", tick_value),
-    ] {
-        let text = file(rt.alloc(), step, tick, script)?;
-        let (status, written) = run(rt.alloc(), text.as_str(), &OpenGate)?;
+    for (step, tick, script, want) in LIMITS {
+        let (status, written) = run_file(rt.alloc(), step, tick, script)?;
         assert_eq!(rt; status, want);
         assert_eq!(rt; written.is_empty(), want != Status::Done);
-        if script == "\"pause 16777213\"" {
-            assert!(rt; written.as_slice().ends_with(b"end 16777216\n"));
-        }
+        assert!(rt; script != MOST || written.as_slice().ends_with(b"end 16777216\n"));
     }
     Ok(())
 }
 
 #[test]
 fn scripts_have_at_most_65536_words(rt: HostRuntime) -> Result<(), Fail> {
-    for (count, want) in [(65_536, Status::Done), (65_537, refused_value(18, 1, 0))] {
+    for (count, want) in [
+        (65_536, Status::Done),
+        (
+            65_537,
+            Status::Refused(Refusal::Value(Place {
+                row: 18,
+                entry: 1,
+                item: 0,
+            })),
+        ),
+    ] {
         let mut script = String::new(rt.alloc());
         for _ in 0..count {
             script.push_str("\"local\",")?;
         }
-        let text = file(rt.alloc(), "10", "1000000", script.as_str())?;
-        let (status, _) = run(rt.alloc(), text.as_str(), &OpenGate)?;
+        let (status, _) = run_file(rt.alloc(), "10", "1000000", script.as_str())?;
         assert_eq!(rt; status, want);
     }
     Ok(())
@@ -212,21 +279,25 @@ impl Gate for NotingGate {
     }
 }
 
+// Runs a file with this script, and answers its status, whether it wrote anything, and what its gate was given.
+fn run_noted(
+    alloc: Global,
+    script: &str,
+) -> Result<(Status, bool, Vec<(u32, u32, i64)>), AllocError> {
+    let gate = NotingGate {
+        notes: RefCell::new(Vec::new(alloc)),
+    };
+    let text = file(alloc, "10", "1000000", script)?;
+    let (status, written) = run(alloc, text.as_str(), &gate)?;
+    let NotingGate { notes } = gate;
+    Ok((status, !written.is_empty(), notes.into_inner()))
+}
+
 #[test]
 fn the_gate_is_given_the_reading_before_each_word(rt: HostRuntime) -> Result<(), Fail> {
-    let gate = NotingGate {
-        notes: RefCell::new(Vec::new(rt.alloc())),
-    };
-    let text = file(
-        rt.alloc(),
-        "10",
-        "1000000",
-        "\"local\", \"tick\", \"pause 5\", \"local\"",
-    )?;
-    let (status, _) = run(rt.alloc(), text.as_str(), &gate)?;
+    let script = "\"local\", \"tick\", \"pause 5\", \"local\"";
+    let (status, _, notes) = run_noted(rt.alloc(), script)?;
     assert_eq!(rt; status, Status::Done);
-    let NotingGate { notes } = gate;
-    let notes = notes.into_inner();
     assert_eq!(rt;
         notes.as_slice(),
         [(0, 0, 0), (0, 1, 30), (0, 2, 60), (0, 3, 60)].as_slice()
@@ -236,11 +307,7 @@ fn the_gate_is_given_the_reading_before_each_word(rt: HostRuntime) -> Result<(),
 
 #[test]
 fn a_refused_file_passes_no_gate(rt: HostRuntime) -> Result<(), Fail> {
-    let gate = NotingGate {
-        notes: RefCell::new(Vec::new(rt.alloc())),
-    };
-    let text = file(rt.alloc(), "10", "1000000", "\"local\", \"locl\"")?;
-    let (status, written) = run(rt.alloc(), text.as_str(), &gate)?;
+    let (status, wrote, notes) = run_noted(rt.alloc(), "\"local\", \"locl\"")?;
     assert_eq!(rt;
         status,
         Status::Refused(Refusal::Word(Place {
@@ -249,96 +316,70 @@ fn a_refused_file_passes_no_gate(rt: HostRuntime) -> Result<(), Fail> {
             item: 2
         }))
     );
-    assert!(rt; written.is_empty());
-    let NotingGate { notes } = gate;
-    let notes = notes.into_inner();
-    assert!(rt; notes.is_empty());
+    assert!(rt; !wrote && notes.is_empty());
     Ok(())
 }
+
+// How a file goes on that is refused, and the line that the program prints.
+const REFUSALS: [(&str, &str); 10] = [
+    ("cpu = [{}]", "refused 2 cpus"),
+    ("cpus = 1\ntick = 0\ncpu = [{}]", "refused 3 tick"),
+    ("cpus = 1\ntick = 0\ncolour = 1\ncpu = [{}]", "refused 2 ?"),
+    (
+        "cpus = 1\ncpu = [{ script = [\"local\", \"locl\"] }]",
+        "refused 4 cpu[0].script[1]",
+    ),
+    (
+        "cpus = 2\ncpu = [{ script = [\"remote 9\"] }, {}]",
+        "refused 5 cpu[0].script[0]",
+    ),
+    ("cpus = 2\ncpu = [{}, { speed = 1 }]", "refused 2 cpu[1].?"),
+    ("cpus = 1\ncpu = [1]", "refused 3 cpu[0]"),
+    ("cpus = 1\ncpu = 1", "refused 3 cpu"),
+    (
+        "cpus = 1\ncpu = [{ jumps = [[1, 1], [0, 1]] }]",
+        "refused 3 cpu[0].jumps[1]",
+    ),
+    (
+        "cpus = 1\ncpu = [{ script = [\"pause 16777214\"] }]",
+        "refused 6 16777217",
+    ),
+];
 
 #[test]
 fn refusals_name_their_place(rt: HostRuntime) -> Result<(), Fail> {
     let head =
         "version = 1\nstep = 10\nnominal_khz = 1000000\nreference.khz = 1000000\nstable = false\n";
-    for (rest, want) in [
-        ("cpu = [{}]", "refused 2 cpus"),
-        ("cpus = 1\ntick = 0\ncpu = [{}]", "refused 3 tick"),
-        ("cpus = 1\ntick = 0\ncolour = 1\ncpu = [{}]", "refused 2 ?"),
-        (
-            "cpus = 1\ncpu = [{ script = [\"local\", \"locl\"] }]",
-            "refused 4 cpu[0].script[1]",
-        ),
-        (
-            "cpus = 2\ncpu = [{ script = [\"remote 9\"] }, {}]",
-            "refused 5 cpu[0].script[0]",
-        ),
-        ("cpus = 2\ncpu = [{}, { speed = 1 }]", "refused 2 cpu[1].?"),
-        ("cpus = 1\ncpu = [1]", "refused 3 cpu[0]"),
-        ("cpus = 1\ncpu = 1", "refused 3 cpu"),
-        (
-            "cpus = 1\ncpu = [{ jumps = [[1, 1], [0, 1]] }]",
-            "refused 3 cpu[0].jumps[1]",
-        ),
-        (
-            "cpus = 1\ncpu = [{ script = [\"pause 16777214\"] }]",
-            "refused 6 16777217",
-        ),
-    ] {
-        let text = format!(in rt.alloc(); "{head}{rest}\n")?;
-        let (status, written) = run(rt.alloc(), text.as_str(), &OpenGate)?;
-        assert!(rt; written.is_empty());
+    for (rest, want) in REFUSALS {
+        let status = refused_parts(rt.alloc(), head, rest)?;
         assert_eq!(rt; status.to_string(rt.alloc())?.as_str(), want);
     }
     Ok(())
 }
 
 #[test]
-fn other_words_are_usage(rt: HostRuntime) -> Result<(), Fail> {
-    let text = file(rt.alloc(), "10", "1000000", "")?;
-    for line in ["run x", "", "--help", "Run", "rate 5"] {
-        let mut source = MemSource::new(
-            bytes_of(rt.alloc(), text.as_str())?,
-            64,
-            List::with_room(rt.alloc(), 0)?,
-        );
-        let mut sink = SureSink::new(List::with_room(rt.alloc(), 100)?);
-        let words = words(rt.alloc(), line)?;
-        let status = clock_tool(
-            &(),
-            rt.alloc(),
-            words.as_slice(),
-            &mut source,
-            &mut sink,
-            &OpenGate,
-        );
-        assert_eq!(rt; status, Status::Usage);
-        assert!(rt; sink.bytes().is_empty());
-    }
-    Ok(())
-}
-
-#[test]
 fn what_is_no_toml_or_too_long_is_refused(rt: HostRuntime) -> Result<(), Fail> {
+    let no_version = Place {
+        row: 1,
+        entry: 0,
+        item: 0,
+    };
     let mut long = String::new(rt.alloc());
     for _ in 0..1_048_577 {
         long.push_str(" ")?;
     }
-    for (text, want) in [
-        (long.as_str(), Status::Refused(Refusal::TooLong)),
-        ("version = ", Status::Refused(Refusal::NotToml)),
-        (
-            "",
-            Status::Refused(Refusal::Key(Place {
-                row: 1,
-                entry: 0,
-                item: 0,
-            })),
-        ),
-    ] {
-        let (status, written) = run(rt.alloc(), text, &OpenGate)?;
-        assert_eq!(rt; status, want);
-        assert!(rt; written.is_empty());
-    }
+    assert_eq!(rt;
+        refused(rt.alloc(), long.as_str())?,
+        Status::Refused(Refusal::TooLong)
+    );
+    assert_eq!(rt;
+        refused(rt.alloc(), "version = ")?,
+        Status::Refused(Refusal::NotToml)
+    );
+    assert_eq!(rt;
+        refused(rt.alloc(), "")?,
+        Status::Refused(Refusal::Key(no_version))
+    );
     Ok(())
 }
 
@@ -382,23 +423,26 @@ fn a_fault_of_the_sink_leaves_a_beginning(rt: HostRuntime) -> Result<(), Fail> {
     Ok(())
 }
 
+// Answers, their exit statuses, and the lines that the program prints.
+const ANSWERS: [(Status, u8, &str); 9] = [
+    (Status::Done, 0, ""),
+    (Status::Usage, 1, "usage: clock_tool run | rate HZ BITS"),
+    (Status::ReadFault, 2, "read fault"),
+    (Status::Refused(Refusal::TooLong), 3, "refused 0"),
+    (Status::Refused(Refusal::NotToml), 3, "refused 1"),
+    (
+        Status::Refused(Refusal::Tickets { needed: 16_777_217 }),
+        3,
+        "refused 6 16777217",
+    ),
+    (Status::Refused(Refusal::Unbuilt), 3, "refused 7"),
+    (Status::WriteFault, 4, "write fault"),
+    (Status::Memory, 5, "out of memory"),
+];
+
 #[test]
 fn answers_have_their_exit_status_and_text(rt: HostRuntime) -> Result<(), Fail> {
-    for (status, code, text) in [
-        (Status::Done, 0, ""),
-        (Status::Usage, 1, "usage: clock_tool run | rate HZ BITS"),
-        (Status::ReadFault, 2, "read fault"),
-        (Status::Refused(Refusal::TooLong), 3, "refused 0"),
-        (Status::Refused(Refusal::NotToml), 3, "refused 1"),
-        (
-            Status::Refused(Refusal::Tickets { needed: 16_777_217 }),
-            3,
-            "refused 6 16777217",
-        ),
-        (Status::Refused(Refusal::Unbuilt), 3, "refused 7"),
-        (Status::WriteFault, 4, "write fault"),
-        (Status::Memory, 5, "out of memory"),
-    ] {
+    for (status, code, text) in ANSWERS {
         assert_eq!(rt; status.exit_code(), code);
         assert_eq!(rt; status.to_string(rt.alloc())?.as_str(), text);
     }

@@ -104,7 +104,7 @@ fn run_in<G: Gate>(boot: Boot, lists: Lists, gate: &G) -> Finished
         starts: Mode::PerCpu,
         sched_offset: 0,
         gtod_offset: stamp.offset,
-        start_word: stamp.gtod + stamp.offset,
+        start_word: stamp.gtod.wrapping_add(stamp.offset),
         cpu_of,
         threads,
         histories,

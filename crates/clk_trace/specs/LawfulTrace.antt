@@ -2,6 +2,7 @@
 use Rattle.std.specs.Prelude.{◌≡◌, ℕ, ◌+◌, pos, ◌+ℤ◌, ◌-ℤ◌, List, [], ◌∷◌, length, map}
 use Rattle.std.specs.List.{All, AllZip, flat_map}
 use Rattle.std.specs.List.Sorted.{IsPermutation}
+use Rattle.clk_num.specs.Wrapping.{wrap}
 use Rattle.clk_machine.specs.Plan.{Plan, cpu_count, threads_of}
 use Rattle.clk_machine.specs.Time.{counter_at}
 use Rattle.clk_trace.specs.ScriptEvents.{AreEventsOf}
@@ -18,7 +19,7 @@ pub record FollowsScripts (m : Plan) (t : Trace) : Type 0 where
   pub cpus : t.cpu_of.items ≡ map (λ s. s.0) (threads_of m)
   pub events : AllZip (λ s es. AreEventsOf s.0 0 s.1 es.items) (threads_of m) t.threads.items
 
--- epoch, boot stamp, offsets and openings as the boot makes them
+-- epoch, boot stamp, offsets and openings as the boot makes them; sums wrap
 pub record HasOpening (m : Plan) (t : Trace) : Type 0 where
   pub epoch_ticket : t.epoch_ticket ≡ 0
   pub epoch_cyc : t.epoch_cyc ≡ counter_at m 0 (pos 0) t.epoch_ticket
@@ -26,8 +27,8 @@ pub record HasOpening (m : Plan) (t : Trace) : Type 0 where
   pub boots : t.boots.items ≡ stamp ∷ []
   pub starts : t.starts ≡ PerCpu
   pub sched_offset : t.sched_offset ≡ pos 0
-  pub gtod_offset : t.gtod_offset ≡ stamp.raw.ns -ℤ stamp.gtod
-  pub start_word : t.start_word ≡ stamp.gtod +ℤ t.gtod_offset
+  pub gtod_offset : t.gtod_offset ≡ wrap (stamp.raw.ns -ℤ stamp.gtod)
+  pub start_word : t.start_word ≡ wrap (stamp.gtod +ℤ t.gtod_offset)
 
 -- what holds at each item and its number, counted from n
 abbrev pub EachFrom : {A : Type 0} → (ℕ → A → Type 0) → ℕ → List A → Type 0

@@ -1,6 +1,8 @@
 -- Which histories of clock words are legal.
-use Rattle.std.specs.Prelude.{◌≡◌, ℤ, ◌+ℤ◌, List, [], ◌∷◌}
-use Rattle.clk_num.specs.Clamp.{raise, local_target, elapsed}
+use Rattle.std.specs.Prelude.{◌≡◌, ℤ, List, [], ◌∷◌}
+use Rattle.clk_num.specs.Wrapping.{raise}
+use Rattle.clk_words.specs.declared.step.Why.TheVariants.{Raise}
+use Rattle.clk_words.specs.Targets.{target}
 use Rattle.clk_trace.specs.WordHistory.{Step, IsHistoryOf}
 use Rattle.clk_trace.specs.declared.event.Event.{Event}
 use Rattle.clk_trace.specs.declared.event.EventKind.{EventKind}
@@ -9,7 +11,7 @@ use Rattle.clk_trace.specs.declared.trace.HistoryStep.{HistoryStep}
 
 -- the value that a step raises its word to
 abbrev pub target_of : ℤ → Step → ℤ
-target_of tick s = local_target (s.tick_gtod +ℤ s.offset) (elapsed s.raw s.tick_raw) tick
+target_of tick s = target tick (Raise s.raw s.tick_raw s.tick_gtod s.offset)
 
 -- the word goes from its opening from step to step, and each step raises it to its target
 abbrev pub IsChain : ℤ → ℤ → List Step → Type 0
@@ -38,5 +40,5 @@ NamesLastStamps offset p (e ∷ es) = NamesPair offset p e.kind × NamesLastStam
 
 -- the lines of a word show its steps in order, and those are a chain from its opening
 pub record IsLegalHistory (tick opening : ℤ) (steps : List Step) (lines : List HistoryStep) : Type 0 where
-  pub history : IsHistoryOf steps lines
+  pub history : IsHistoryOf opening steps lines
   pub chain : IsChain tick opening history.ordered

@@ -1,9 +1,10 @@
 -- The history of a clock word, out of the events of the threads.
-use Rattle.std.specs.Prelude.{◌≡◌, ℕ, ◌+◌, ◌==◌, Bool, not, ℤ, int_lt, List, [], ◌∷◌, ◌++◌, map, if◌then◌else◌}
+use Rattle.std.specs.Prelude.{◌≡◌, ℕ, ◌+◌, ◌==◌, Bool, ℤ, List, [], ◌∷◌, ◌++◌, map, if◌then◌else◌}
 use Rattle.std.specs.declared.cmp.Ordering.{Ordering}
-use Rattle.std.specs.Ordering.{ordering_then, nat_cmp, int_cmp, bool_cmp}
+use Rattle.std.specs.Ordering.{ordering_then, nat_cmp, int_cmp, int_eq, bool_cmp}
 use Rattle.std.specs.List.Sorted.{IsPermutation, IsSorted}
 use Rattle.clk_num.specs.Listed.{Listed}
+use Rattle.clk_num.specs.Wrapping.{above}
 use Rattle.clk_trace.specs.declared.event.Event.{Event}
 use Rattle.clk_trace.specs.declared.event.EventKind.{EventKind}
 use Rattle.clk_trace.specs.declared.event.EventKind.TheVariants.{Local}
@@ -46,20 +47,20 @@ steps_on w n _ _ = []
 
 -- the step left the word as it was
 abbrev pub is_flat : HistoryStep → Bool
-is_flat s = not (int_lt s.old s.new)
+is_flat s = int_eq s.old s.new
 
--- by the word afterwards, then rising steps before flat ones, then by thread, call and place
-abbrev pub history_cmp : HistoryStep → HistoryStep → Ordering
-history_cmp a b =
+-- by how far the word is above its opening afterwards, then rising steps before flat ones, then by thread, call and place
+abbrev pub history_cmp : ℤ → HistoryStep → HistoryStep → Ordering
+history_cmp opening a b =
     ordering_then
     (ordering_then
-    (ordering_then (ordering_then (int_cmp a.new b.new) (bool_cmp (is_flat a) (is_flat b))) (nat_cmp a.thread b.thread))
+    (ordering_then (ordering_then (int_cmp (above a.new opening) (above b.new opening)) (bool_cmp (is_flat a) (is_flat b))) (nat_cmp a.thread b.thread))
     (nat_cmp a.call b.call))
     (nat_cmp a.part b.part)
 
 -- the lines show just these steps, in order
-pub record IsHistoryOf (steps : List Step) (lines : List HistoryStep) : Type 0 where
+pub record IsHistoryOf (opening : ℤ) (steps : List Step) (lines : List HistoryStep) : Type 0 where
   pub ordered : List Step
   pub all : IsPermutation steps ordered
   pub printed : lines ≡ map (λ s. s.line) ordered
-  pub sorted : IsSorted history_cmp lines
+  pub sorted : IsSorted (history_cmp opening) lines

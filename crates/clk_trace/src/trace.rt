@@ -24,7 +24,8 @@ pub struct HistoryStep {
     pub new: i64,
 }
 
-/// A whole run. Tickets are counted from 0, times are in ns.
+/// A whole run. Tickets are counted from 0, times are in ns. Clock values wrap at 64 bits: the sign of a difference tells
+/// which of two is later.
 #[derive(Drop)]
 pub struct Trace {
     /// The ticket and the counter value, in cycles, of record 0.

@@ -1,5 +1,6 @@
 -- From what a step tells to what a call says, over plain data.
-use Rattle.std.proofs.Common.{refl, ◌≡◌, ◌≢◌, ℕ, ◌+◌, ◌^◌, ◌<◌, ℤ, List, [], ◌∷◌, ◌++◌, sym, ap, ◌∙◌, subst, arith, eq-eqb, ne_eqb, true, false}
+use Rattle.std.proofs.Common.{refl, ◌≡◌, ◌≢◌, ℕ, ◌+◌, ◌^◌, ◌<◌, ℤ, pos, ◌+ℤ◌, List, [], ◌∷◌, ◌++◌, sym, ap, ◌∙◌, subst, arith, eq-eqb, ne_eqb, true, false}
+use Rattle.std.specs.Int.{int_min, int_max}
 use Rattle.std.proofs.lemmas.Int.{ints, clamps}
 use Rattle.std.proofs.lemmas.List.Elements.{All-push, All-weaker, All-contains}
 use mathlib.Core.Option.{some, some-injective}
@@ -8,7 +9,12 @@ use Rattle.atomic_table.specs.Seated.{TableId}
 use Rattle.atomic_table.specs.Table.{Me}
 use Rattle.atomic_table.specs.Table.{Step as Turn}
 use Rattle.clk_num.specs.Biased.{IsWordOf}
-use Rattle.clk_num.specs.Clamp.{raise}
+use Rattle.clk_num.specs.Range.{IsNear}
+use Rattle.clk_num.specs.Clamp.{local_target, elapsed}
+use Rattle.clk_num.specs.Wrapping.{IsValue, wrap, above, raise, bits_of, IsBitsOf}
+use Rattle.clk_num.proofs.Wraps.{wrapped}
+use Rattle.clk_num.proofs.Heights.{wrap_fits, wrap_again, same_above, above_is, bits_are, bits_keep}
+use Rattle.clk_words.specs.declared.opening.Opening.{Opening}
 use Rattle.clk_words.specs.declared.opening.Start.{Start}
 use Rattle.clk_words.specs.declared.step.Step.{Step}
 use Rattle.clk_words.specs.declared.step.Why.{Why}
@@ -20,16 +26,17 @@ use Rattle.clk_words.specs.declared.view.Name.TheVariants.{Clock, Gtod, Raw, Off
 use Rattle.clk_words.specs.declared.kind.SeatKind.{SeatKind}
 use Rattle.clk_words.specs.Kinds.{cpu_of}
 use Rattle.clk_words.specs.Targets.{target}
-use Rattle.clk_words.specs.Histories.{opens_at, value_after, NamesHeld, is_lift}
-use Rattle.clk_words.specs.Bounds.{IsGtod, IsRaw, IsClock, IsTick, IsOpening}
+use Rattle.clk_words.specs.Histories.{opens_at, value_after, HadValue, NamesHeld, is_lift}
+use Rattle.clk_words.specs.Heights.{IsClockWord}
+use Rattle.clk_words.specs.Bounds.{opens_of, IsGtod, IsOffset, IsClock, IsTick, IsOpening}
 use Rattle.clk_words.specs.Parts.{gtod_of, raw_of}
 use Rattle.clk_words.specs.Knowing.{IsSoundAs, AreSound, HasLoaded, IsTrusted}
-use Rattle.clk_words.specs.Told.{Looks, Makes, Loads, Finds, FindsGtod, FindsRaw, stamped, LoadedClock, Missed, Hit, Exchanged, LoadedGtod, LoadedRaw}
+use Rattle.clk_words.specs.Told.{Looks, Makes, Raises, Loads, Finds, FindsGtod, FindsRaw, stamped, LoadedClock, Missed, Hit, Exchanged, Raised, LoadedGtod, LoadedRaw}
 use Rattle.clk_words.specs.Held.{Place, Held, place_of}
 use Rattle.clk_words.specs.Seated.{IsSeated, AreWords}
-use Rattle.clk_words.specs.Calls.{Loses}
-use Rattle.clk_words.proofs.Replay.{had_here, had_more}
-use Rattle.clk_words.proofs.Keeping.{MayTry}
+use Rattle.clk_words.specs.Calls.{Loses, step_of}
+use Rattle.clk_words.proofs.Replay.{clock_near, had_here, had_more}
+use Rattle.clk_words.proofs.Keeping.{MayTry, MayRaise, raise_range}
 
 -- a seat that belongs to the words is of their table and began with their key
 pub record Belongs (table : TableId) (start : Start) (own : TableId) (key : Start) : Type 0 where
@@ -136,52 +143,73 @@ module _ (number : ℕ) (kind : SeatKind) (made : ℕ) (taken later : List (ℕ 
   })
 
 -- what a load says, of the caller's view
-pub says_loads : (turn : Turn Step) (m n : Me Step View) (found : ℕ) (v : View) (x : ℤ) → LoadedClock turn m found n → m.0 ≡ v → IsWordOf x found → Loads v turn.word x n.0
-says_loads turn m n found v x told e word =
-    let same : told.value ≡ x = let p = told.word_is in omega (arith, ints) in
+same_clock : (start : Start) (x y : ℤ) (n : ℕ) → IsClock (opens_at start) x → IsValue y → IsClockWord start x n → IsClockWord start y n → x ≡ y
+same_clock start x y n range fits p q = same_above (opens_at start) x y range.0 fits (omega (arith, ints))
+
+pub says_loads : (turn : Turn Step) (m n : Me Step View) (found : ℕ) (v : View) (x : ℤ) → LoadedClock turn m found n → m.0 ≡ v → IsValue x → IsClockWord m.0.start x found
+    → Loads v turn.word x n.0
+says_loads turn m n found v x told e fits word =
+    let same : told.value ≡ x = same_clock m.0.start told.value x found told.loads.range fits told.word_is word in
     subst (λ y. Loads v turn.word y n.0) same (subst (λ u. Loads u turn.word told.value n.0) e told.loads)
 
-pub says_gtod : (turn : Turn Step) (m n : Me Step View) (found : ℕ) (v : View) (x : ℤ) → LoadedGtod turn m found n → m.0 ≡ v → IsWordOf x found → FindsGtod v (cpu_of v.kind) x n.0
+pub says_gtod : (turn : Turn Step) (m n : Me Step View) (found : ℕ) (v : View) (x : ℤ) → LoadedGtod turn m found n → m.0 ≡ v → IsBitsOf x found → FindsGtod v (cpu_of v.kind) x n.0
 says_gtod turn m n found v x told e word =
-    let same : told.value ≡ x = let p = told.word_is in omega (arith, ints) in
+    let same : told.value ≡ x = bits_keep told.value x found told.word_is word in
     subst (λ y. FindsGtod v (cpu_of v.kind) y n.0) same (subst (λ u. FindsGtod u (cpu_of u.kind) told.value n.0) e told.finds)
 
-pub says_raw : (turn : Turn Step) (m n : Me Step View) (found : ℕ) (v : View) (x : ℤ) → LoadedRaw turn m found n → m.0 ≡ v → IsWordOf x found → FindsRaw v (cpu_of v.kind) x n.0
+pub says_raw : (turn : Turn Step) (m n : Me Step View) (found : ℕ) (v : View) (x : ℤ) → LoadedRaw turn m found n → m.0 ≡ v → IsBitsOf x found → FindsRaw v (cpu_of v.kind) x n.0
 says_raw turn m n found v x told e word =
-    let same : told.value ≡ x = let p = told.word_is in omega (arith, ints) in
+    let same : told.value ≡ x = bits_keep told.value x found told.word_is word in
     subst (λ y. FindsRaw v (cpu_of v.kind) y n.0) same (subst (λ u. FindsRaw u (cpu_of u.kind) told.value n.0) e told.finds)
 
 -- a word in range has its value
-pub clock_fits : (x : ℤ) (n : ℕ) → IsWordOf x n → IsClock x → n < 2 ^ 63
-clock_fits x n p q = omega (arith, ints)
+pub clock_fits : (start : Start) (x : ℤ) (n : ℕ) → IsClockWord start x n → IsClock (opens_at start) x → n < 2 ^ 63
+clock_fits start x n p q = let low = q.1 in let high = q.2 in omega (arith, ints)
 
-pub gtod_fits : (x : ℤ) (n : ℕ) → IsWordOf x n → IsGtod x → n < 2 ^ 63
-gtod_fits x n p q = omega (arith, ints)
+-- a clock word of the words' opening is one of the seat's
+pub word_here : (start key : Start) (opens x : ℤ) (n : ℕ) → start ≡ key → opens ≡ opens_at key → IsWordOf (above x opens) n → IsClockWord start x n
+word_here start key opens x n same is word =
+    subst (λ (o : Start). IsClockWord o x n) (sym same) (subst (λ o. IsWordOf (above x o) n) is word)
 
-pub raw_fits : (x : ℤ) (n : ℕ) → IsWordOf x n → IsRaw x → n < 2 ^ 63
-raw_fits x n p q = omega (arith, ints)
+-- a word that the code takes in two's complement keeps its value
+pub bits_here : (x : ℤ) (n : ℕ) → IsValue x → n ≡ bits_of x → IsBitsOf x n
+bits_here x n fits is = subst (IsBitsOf x) (sym is) (bits_are x fits)
 
 -- a value that was loaded is in range
 pub loaded_sound : (v : View) (name : Name) (x : ℤ) → AreSound v.start v.seen v.loads → HasLoaded v name x → IsSoundAs v.start v.seen name x
 loaded_sound v name x sound has = All-contains (λ (l : Load). IsSoundAs v.start v.seen l.of l.value) v.loads (record { of = name; value = x }) sound has
 
--- so is the target of a step that names such values
-target_range : (tick raw tick_raw tick_gtod offset : ℤ) → IsTick tick → IsRaw offset → IsGtod tick_gtod → IsClock (target tick (Raise raw tick_raw tick_gtod offset))
-target_range tick raw tick_raw tick_gtod offset t o g = (omega (arith, ints, clamps), omega (arith, ints, clamps))
+-- the offset of an opening is in range by itself
+pub offset_range : (o : Opening) → IsOpening o → IsOffset (opens_of o) o.offset
+offset_range o is = let low = is.gtod.0 in let high = is.gtod.1 in (omega (arith, ints, wrapped), omega (arith, ints, wrapped))
 
-pub trusted_range : (v : View) (why : Why) → IsTick v.start.tick → IsRaw v.start.opening.offset → AreSound v.start v.seen v.loads → IsTrusted v why → IsClock (target v.start.tick why)
+-- so is the target of a step that names such values, but that it may lie below the opening
+pub record IsTarget (opens x : ℤ) : Type 0 where
+  pub fits : IsValue x
+  pub near : IsNear 60 (above x opens)
+
+target_range : (opens tick raw tick_raw tick_gtod offset : ℤ) → IsTick tick → IsOffset opens offset → IsGtod tick_gtod
+    → IsTarget opens (target tick (Raise raw tick_raw tick_gtod offset))
+target_range opens tick raw tick_raw tick_gtod offset t o g = record {
+  fits = wrap_fits _;
+  near = (omega (arith, ints, clamps, wrapped), omega (arith, ints, clamps, wrapped));
+}
+
+clock_target : (opens x : ℤ) → IsClock opens x → IsTarget opens x
+clock_target opens x p = let low = p.1 in let high = p.2 in record { fits = p.0; near = (omega (arith, ints), omega (arith, ints)) }
+
+pub trusted_range : (v : View) (why : Why) → IsTick v.start.tick → IsOpening v.start.opening → AreSound v.start v.seen v.loads → IsTrusted v why
+    → IsTarget (opens_at v.start) (target v.start.tick why)
 trusted_range v (Raise raw tick_raw tick_gtod offset) t o sound trusted =
-    target_range v.start.tick raw tick_raw tick_gtod offset t (subst IsRaw (sym trusted.3) o) (loaded_sound v (Gtod (cpu_of v.kind)) tick_gtod sound trusted.2)
-trusted_range v (Couple from value) t o sound trusted = (loaded_sound v (Clock from) value sound trusted).1
+    target_range (opens_at v.start) v.start.tick raw tick_raw tick_gtod offset t (subst (IsOffset (opens_at v.start)) (sym trusted.3) (offset_range v.start.opening o))
+    (loaded_sound v (Gtod (cpu_of v.kind)) tick_gtod sound trusted.2)
+trusted_range v (Couple from value) t o sound trusted = clock_target (opens_at v.start) value (loaded_sound v (Clock from) value sound trusted).1
 trusted_range v (Lift value) t o sound trusted = absurd trusted
 
 pub trusted_names : (v : View) (why : Why) → AreSound v.start v.seen v.loads → IsTrusted v why → NamesHeld v.start v.seen why
 trusted_names v (Raise raw tick_raw tick_gtod offset) sound trusted = tt
 trusted_names v (Couple from value) sound trusted = (loaded_sound v (Clock from) value sound trusted).0
 trusted_names v (Lift value) sound trusted = tt
-
-pub raise_range : (x y : ℤ) → IsClock x → IsClock y → IsClock (raise x y)
-raise_range x y p q = (omega (arith, ints, clamps), omega (arith, ints, clamps))
 
 same_number : (m n : ℕ) → Dec (m ≡ n)
 same_number m n = ℕ_discrete m n
@@ -213,12 +241,16 @@ exchanged_start turn m n found told = by_case (same_number found turn.first)
 
 -- what a lost exchange says, of the caller's view
 pub says_lost : (turn : Turn Step) (m n : Me Step View) (found : ℕ) (v : View) (old x : ℤ) → Missed m turn.first found turn.word n → found ≢ turn.first → m.0 ≡ v
-    → IsWordOf old turn.first → IsWordOf x found → Loses v turn.word old x n.0
-says_lost turn m n found v old x told k e word held = record {
-  looks = subst (λ u. Looks u n.0) e told.looks;
-  value_is = subst (λ (u : View). value_after (opens_at u.start) turn.word n.0.seen ≡ x) e (told.value_is ∙ (let p = told.word_is in omega (arith, ints)));
-  later = let p = told.later in omega (arith, ints);
-}
+    → IsClock (opens_at m.0.start) old → IsClockWord m.0.start old turn.first → IsValue x → IsClockWord m.0.start x found → Loses v turn.word old x n.0
+says_lost turn m n found v old x told k e range word fits held =
+    let opens = opens_at m.0.start in
+    let same : told.value ≡ x = same_clock m.0.start told.value x found told.range fits told.word_is held in
+    let far = above_is opens x old (clock_near opens x (subst (IsClock opens) same told.range)) (clock_near opens old range) in
+    record {
+      looks = subst (λ u. Looks u n.0) e told.looks;
+      value_is = subst (λ (u : View). value_after (opens_at u.start) turn.word n.0.seen ≡ x) e (told.value_is ∙ same);
+      later = let p = told.later in omega (arith, ints);
+    }
 
 -- the words' number of CPUs is their key's
 pub word_low : (own : TableId) (key : Start) (place : Place) (w : ℕ) → record { table = own; start = key } ≡ place → w < place.start.cpus → w < key.cpus
@@ -241,10 +273,10 @@ pub cpu_low : (table own : TableId) (start key : Start) (cpu : ℕ) → Belongs 
 cpu_low table own start key cpu b low = let e = ap (λ (s : Start). s.cpus) b.start_is in omega arith
 
 -- what a store says, of the caller's view
-pub says_stamped : (m n : Me Step View) (v : View) (r : View → ℕ) (value x : ℤ) (word : ℕ) → n ≡ (stamped (r m.0) value m.0, m.1) → m.0 ≡ v → IsWordOf value word → IsWordOf x word
+pub says_stamped : (m n : Me Step View) (v : View) (r : View → ℕ) (value x : ℤ) (word : ℕ) → n ≡ (stamped (r m.0) value m.0, m.1) → m.0 ≡ v → IsBitsOf value word → IsBitsOf x word
     → n.0 ≡ stamped (r v) x v
 says_stamped m n v r value x word is e p q =
-    let same : value ≡ x = omega (arith, ints) in
+    let same : value ≡ x = bits_keep value x word p q in
     ap (λ (k : Me Step View). k.0) is ∙ ap (λ y. stamped (r m.0) y m.0) same ∙ ap (λ (u : View). stamped (r u) x u) e
 
 -- an exchange that was done, of the caller's view
@@ -254,66 +286,118 @@ says_done turn m n found v said told e is same =
     let step : hit.step ≡ said = some-injective hit.step said (sym hit.said_is ∙ is) in
     subst (λ s. Makes v s n.0) step (subst (λ u. Makes u hit.step n.0) same hit.makes)
 
+-- what a raise says, of the caller's view
+pub says_raised : (call : ℕ) (why : Why) (turn : Turn Step) (m n : Me Step View) (found : ℕ) (v : View) (x : ℤ) → Raised call why turn m found n → m.0 ≡ v
+    → IsValue x → IsClockWord m.0.start x found → Raises v (step_of v call turn.word x (raise x (target v.start.tick why)) why) n.0
+says_raised call why turn m n found v x told e fits word =
+    let same : told.old ≡ x = same_clock m.0.start told.old x found told.raises.range fits told.word_is word in
+    subst (λ (u : View). Raises u (step_of u call turn.word x (raise x (target u.start.tick why)) why) n.0) e
+    (subst (λ y. Raises m.0 (step_of m.0 call turn.word y (raise y (target m.0.start.tick why)) why) n.0) same told.raises)
+
 -- the value put is in range, since the target is
 put_range : (v : View) (word : ℕ) (old new : ℤ) (why : Why) → IsTick v.start.tick → IsOpening v.start.opening → AreSound v.start v.seen v.loads → HasLoaded v (Clock word) old → IsTrusted v why
-    → new ≡ raise old (target v.start.tick why) → IsClock new
+    → new ≡ raise old (target v.start.tick why) → IsClock (opens_at v.start) new
 put_range v word old new why tick opening sound loaded trusted is =
-    subst IsClock (sym is) (raise_range old (target v.start.tick why) (loaded_sound v (Clock word) old sound loaded).1 (trusted_range v why tick opening.offset sound trusted))
+    let to = trusted_range v why tick opening sound trusted in
+    subst (IsClock (opens_at v.start)) (sym is) (raise_range (opens_at v.start) old (target v.start.tick why) (loaded_sound v (Clock word) old sound loaded).1 to.fits to.near)
 
 trusted_raises : (v : View) (why : Why) → IsTrusted v why → is_lift why ≡ false
 trusted_raises v (Raise raw tick_raw tick_gtod offset) trusted = refl
 trusted_raises v (Couple from value) trusted = refl
 trusted_raises v (Lift value) trusted = absurd trusted
 
-may_put : (v : View) (s : Step) (number : ℕ) (kind : SeatKind) (made old new : ℕ) (taken : List (ℕ × Step)) → IsSeated number kind made taken v → IsTick v.start.tick → IsOpening v.start.opening
-    → s.by ≡ number → s.word < v.start.cpus → HasLoaded v (Clock s.word) s.old → IsTrusted v s.why → s.new ≡ raise s.old (target v.start.tick s.why)
-    → v.modes.found ≡ true → IsWordOf s.old old → IsWordOf s.new new → MayTry v.start v s old new
-may_put v s number kind made old new taken seated tick opening by low loaded trusted is found old_word new_word = record {
-  found = found;
-  raises = trusted_raises v s.why trusted;
-  by_is = by ∙ seated.number_is;
-  low = low;
-  old_word = old_word;
-  new_word = new_word;
-  new_is = is;
-  had = (loaded_sound v (Clock s.word) s.old seated.sound loaded).0;
-  names = trusted_names v s.why seated.sound trusted;
-  range = put_range v s.word s.old s.new s.why tick opening seated.sound loaded trusted is;
-}
-
--- what a caller may ask to be put, by the seat and the words that it hands in
-pub record MayPut (start : Start) (v : View) (word : ℕ) (old new : ℤ) (why : Why) : Type 0 where
+-- what a caller may ask of a word, by the seat and the words that it hands in
+pub record MayAsk (start : Start) (v : View) (word : ℕ) (why : Why) : Type 0 where
   pub low : word < start.cpus
-  pub loaded : HasLoaded v (Clock word) old
   pub trusted : IsTrusted v why
   pub found : v.modes.found ≡ true
-  pub new_is : new ≡ raise old (target start.tick why)
   pub tick : IsTick start.tick
   pub opening : IsOpening start.opening
 
-pub put_asked : (table own : TableId) (v : View) (key : Start) (held : Held) (place : Place) (word : ℕ) (old new : ℤ) (why : Why) (cpus : ℕ) (offset : ℤ)
-    → AreWords cpus offset own key → record { table = table; view = v } ≡ held → record { table = own; start = key } ≡ place
-    → word < place.start.cpus → HasLoaded held.view (Clock word) old → IsTrusted held.view why → held.view.modes.found ≡ true → new ≡ raise old (target place.start.tick why)
-    → MayPut key v word old new why
-put_asked table own v key held place word old new why cpus offset are view_is self_is low loaded trusted found is = record {
+pub asked : (table own : TableId) (v : View) (key : Start) (held : Held) (place : Place) (word : ℕ) (why : Why) (cpus : ℕ) (tick opens offset : ℤ)
+    → AreWords cpus tick opens offset own key → record { table = table; view = v } ≡ held → record { table = own; start = key } ≡ place
+    → word < place.start.cpus → IsTrusted held.view why → held.view.modes.found ≡ true → MayAsk key v word why
+asked table own v key held place word why cpus tick opens offset are view_is self_is low trusted found = record {
   found = ap (λ (h : Held). h.view.modes.found) view_is ∙ found;
   low = word_low own key place word self_is low;
-  loaded = subst (λ (h : Held). HasLoaded h.view (Clock word) old) (sym view_is) loaded;
   trusted = subst (λ (h : Held). IsTrusted h.view why) (sym view_is) trusted;
-  new_is = is ∙ ap (λ (p : Place). raise old (target p.start.tick why)) (sym self_is);
-  tick = are.tick;
+  tick = are.tick_range;
   opening = are.opening;
 }
 
-pub put_in_range : (start : Start) (v : View) (word : ℕ) (old new : ℤ) (why : Why) (number : ℕ) (kind : SeatKind) (made : ℕ) (taken : List (ℕ × Step))
-    → IsSeated number kind made taken v → v.start ≡ start → MayPut start v word old new why → IsClock old × IsClock new
-put_in_range start v word old new why number kind made taken seated same may =
-    let back : MayPut v.start v word old new why = subst (λ (s : Start). MayPut s v word old new why) (sym same) may in
-    ((loaded_sound v (Clock word) old seated.sound back.loaded).1, put_range v word old new why back.tick back.opening seated.sound back.loaded back.trusted back.new_is)
+-- what it asks to be raised has a target in range, and may be raised
+module _ (start : Start) (v : View) (word : ℕ) (why : Why) (number : ℕ) (kind : SeatKind) (made : ℕ) (taken : List (ℕ × Step))
+    (seated : IsSeated number kind made taken v) (same : v.start ≡ start) (may : MayAsk start v word why) where
+  back : MayAsk v.start v word why
+  back = subst (λ (s : Start). MayAsk s v word why) (sym same) may
+
+  pub asked_target : IsTarget (opens_at start) (target start.tick why)
+  asked_target = subst (λ (s : Start). IsTarget (opens_at s) (target s.tick why)) same
+      (let here = back in trusted_range v why here.tick here.opening seated.sound here.trusted)
+
+  pub raise_asked : (most : ℕ) → IsClockWord start (target start.tick why) most → MayRaise start v word most why
+  raise_asked most is =
+      let to = asked_target in
+      record {
+        low = may.low;
+        fits = to.fits;
+        near = to.near;
+        most_is = is;
+        names = subst (λ (s : Start). NamesHeld s v.seen why) same (trusted_names v why seated.sound may.trusted);
+        found = may.found;
+        no_lift = trusted_raises v why may.trusted;
+      }
+
+  -- what it asks to be put
+  pub put_in_range : (old new : ℤ) → HasLoaded v (Clock word) old → new ≡ raise old (target start.tick why) → IsClock (opens_at start) old × IsClock (opens_at start) new
+  put_in_range old new loaded is =
+      let here = back in
+      let put : new ≡ raise old (target v.start.tick why) = is ∙ ap (λ (s : Start). raise old (target s.tick why)) (sym same) in
+      subst (λ (s : Start). IsClock (opens_at s) old × IsClock (opens_at s) new) same
+      ((loaded_sound v (Clock word) old seated.sound loaded).1, put_range v word old new why here.tick here.opening seated.sound loaded here.trusted put)
+
+-- the target that the code takes is near the opening that it keeps
+pub near_here : (key : Start) (tick opens wanted : ℤ) (why : Why) → tick ≡ key.tick → opens ≡ opens_at key → wanted ≡ target tick why → IsTarget (opens_at key) (target key.tick why)
+    → IsNear 60 (above wanted opens)
+near_here key tick opens wanted why same is to near =
+    subst (λ x. IsNear 60 (above x opens)) (sym (to ∙ ap (λ t. target t why) same)) (subst (λ o. IsNear 60 (above (target key.tick why) o)) (sym is) near.near)
+
+pub target_here : (key : Start) (tick opens wanted : ℤ) (why : Why) (most : ℕ) → tick ≡ key.tick → opens ≡ opens_at key → wanted ≡ target tick why → IsWordOf (above wanted opens) most
+    → IsClockWord key (target key.tick why) most
+target_here key tick opens wanted why most same is to word =
+    subst (λ x. IsClockWord key x most) (to ∙ ap (λ t. target t why) same) (word_here key key opens wanted most refl is word)
+
+pub near_clock : (key : Start) (opens x : ℤ) → opens ≡ opens_at key → IsClock (opens_at key) x → IsNear 60 (above x opens)
+near_clock key opens x is range = subst (λ o. IsNear 60 (above x o)) (sym is) (clock_target (opens_at key) x range).near
+
+-- the step that the code answers is the one that was raised
+pub same_raise : (v : View) (by c call word : ℕ) (y why : Why) (old new tick key wanted : ℤ) → by ≡ v.number → c ≡ call → y ≡ why → tick ≡ key → wanted ≡ target tick why → new ≡ raise old wanted
+    → step_of v c word old (raise old (target key y)) y ≡ record { by = by; call = call; word = word; why = why; old = old; new = new }
+same_raise v by c call word y why old new tick key wanted e f g same to is = cc
+
+-- the target of a local reading, as the code sums it up
+pub raise_target : (raw tick_raw tick_gtod offset tick gone past sum to : ℤ) (why : Why) → why ≡ Raise raw tick_raw tick_gtod offset → gone ≡ above raw tick_raw → past ≡ int_max gone (pos 0)
+    → sum ≡ wrap (tick_gtod +ℤ offset) → to ≡ local_target sum past tick → to ≡ target tick why
+raise_target raw tick_raw tick_gtod offset tick gone past sum to why is went since base reached =
+    let least = int_min (elapsed raw tick_raw) tick in
+    reached ∙ ap (λ d. wrap (sum +ℤ int_min d tick)) (since ∙ ap (λ x. int_max x (pos 0)) went) ∙ ap (λ b. wrap (b +ℤ least)) base
+    ∙ wrap_again (tick_gtod +ℤ offset) least ∙ ap (target tick) (sym is)
 
 pub try_asked : (start : Start) (v : View) (s : Step) (number : ℕ) (kind : SeatKind) (made old new : ℕ) (taken : List (ℕ × Step))
-    → IsSeated number kind made taken v → v.start ≡ start → MayPut start v s.word s.old s.new s.why → s.by ≡ number → IsWordOf s.old old → IsWordOf s.new new → MayTry start v s old new
-try_asked start v s number kind made old new taken seated same may by old_word new_word =
-    let back : MayPut v.start v s.word s.old s.new s.why = subst (λ (o : Start). MayPut o v s.word s.old s.new s.why) (sym same) may in
-    subst (λ (o : Start). MayTry o v s old new) same
-    (may_put v s number kind made old new taken seated back.tick back.opening by back.low back.loaded back.trusted back.new_is back.found old_word new_word)
+    → (seated : IsSeated number kind made taken v) → (same : v.start ≡ start) → MayAsk start v s.word s.why → HasLoaded v (Clock s.word) s.old → s.new ≡ raise s.old (target start.tick s.why)
+    → s.by ≡ number → IsClockWord start s.old old → IsClockWord start s.new new → MayTry start v s old new
+try_asked start v s number kind made old new taken seated same may loaded is by old_word new_word =
+    let range = put_in_range start v s.word s.why number kind made taken seated same may s.old s.new loaded is in
+    record {
+      by_is = by ∙ seated.number_is;
+      low = may.low;
+      old_word = old_word;
+      new_word = new_word;
+      new_is = is;
+      had = subst (λ (o : Start). HadValue o v.seen s.word s.old) same (loaded_sound v (Clock s.word) s.old seated.sound loaded).0;
+      names = subst (λ (o : Start). NamesHeld o v.seen s.why) same (trusted_names v s.why seated.sound may.trusted);
+      old_range = range.0;
+      new_range = range.1;
+      found = may.found;
+      no_lift = trusted_raises v s.why may.trusted;
+    }

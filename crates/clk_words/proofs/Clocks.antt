@@ -5,7 +5,6 @@ use mathlib.Core.Option.{some}
 use mathlib.Core.Logic.{dite}
 use native.Mathlib.Decide.{ℕ_discrete}
 use lib.ListN.{get_elem?}
-use Rattle.clk_num.specs.Biased.{IsWordOf}
 use Rattle.clk_words.specs.declared.opening.Start.{Start}
 use Rattle.clk_words.specs.declared.step.Step.{Step}
 use Rattle.clk_words.specs.declared.view.View.{View}
@@ -14,12 +13,12 @@ use Rattle.clk_words.specs.declared.view.PairView.{PairView}
 use Rattle.clk_words.specs.declared.kind.SeatKind.{SeatKind}
 use Rattle.clk_words.specs.Fronts.{Begins}
 use Rattle.clk_words.specs.Histories.{opens_at, value_after, Follows, IsGlobalHistory, steps_by}
-use Rattle.clk_words.specs.Bounds.{IsClock}
+use Rattle.clk_words.specs.Heights.{IsClockWord}
 use Rattle.clk_words.specs.Views.{own_lists, giver_view, given_view, joint_view, spent_view, longer, joint_made}
 use Rattle.clk_words.specs.Knowing.{IsGood}
 use Rattle.clk_words.specs.Kept.{IsOwn, Fits, HistoryPart}
 use Rattle.clk_words.proofs.Fronts.{begins_self, begins_more, begins_through, begins_shorter}
-use Rattle.clk_words.proofs.Replay.{value_here, value_else, legal_more, legal_front, by_append, by_here, by_else, by_fresh, by_between}
+use Rattle.clk_words.proofs.Replay.{value_here, value_else, range_more, legal_more, legal_front, by_append, by_here, by_else, by_fresh, by_between}
 use Rattle.clk_words.proofs.Places.{placed, grown, times, times_here, times_append, times_none, none_times}
 
 -- a view that has seen more, and whose loads and pairs may have changed
@@ -131,9 +130,9 @@ fits_mine start history made holder splitter id v s between e by fits =
 
 pub clocks_makes : (start : Start) (history : List Step) (made : ℕ) (holder : ℕ → ℕ) (splitter : ℕ) (words : List ℕ) (views : List View) (id n : ℕ) (v : View) (s : Step) (between : List Step)
     → HistoryPart start history made holder splitter words views → get_elem? views id ≡ some v → v.live ≡ true
-    → history ≡ v.seen ++ between → s.by ≡ v.number → s.word < length words → Follows start history s → IsClock s.new → IsWordOf s.new n
+    → history ≡ v.seen ++ between → s.by ≡ v.number → s.word < length words → Follows start history s → IsClockWord start s.new n
     → HistoryPart start (history ++ s ∷ []) made holder splitter (set words s.word n) (set views id (makes_view v between s))
-clocks_makes start history made holder splitter words views id n v s between part at live e by wide follows range word =
+clocks_makes start history made holder splitter words views id n v s between part at live e by wide follows word =
     let fits = part.each id v at live in
     let first : IsOwn history made holder id v.seen v.number v.mine =
     All-head (λ (own : ℕ × List Step). IsOwn history made holder id v.seen own.0 own.1) (v.number, v.mine) v.joined fits.lists in
@@ -146,14 +145,11 @@ clocks_makes start history made holder splitter words views id n v s between par
       made_by = All-push (λ (t : Step). t.by < made) history s part.made_by below;
       clocks = λ w low.
           dite (ℕ_discrete w s.word)
-          (λ h. subst (λ k. IsWordOf (value_after (opens_at start) k (history ++ s ∷ [])) (get_or (set words s.word n) k 0)) (sym h)
+          (λ h. subst (λ k. IsClockWord start (value_after (opens_at start) k (history ++ s ∷ [])) (get_or (set words s.word n) k 0)) (sym h)
           (rw (get_or-set_same words s.word n 0 wide, value_here (opens_at start) s.word history s refl) word))
           (λ k. let away : s.word ≢ w = λ h. k (sym h) in
           rw (get_or-set_other words s.word w n 0 k, value_else (opens_at start) w history s away) (part.clocks w low));
-      range = λ w.
-          dite (ℕ_discrete s.word w)
-          (λ h. rw (value_here (opens_at start) w history s h) range)
-          (λ k. rw (value_else (opens_at start) w history s k) (part.range w));
+      range = range_more start history s follows.range part.range;
       each = placed P Q views id (makes_view v between s) part.each
           (λ j u ne p alive. fits_other start history made holder splitter id j u s held ne (p alive))
           (λ alive. fits_mine start history made holder splitter id v s between e by fits);

@@ -10,11 +10,13 @@ use mathlib.Core.Logic.{dite}
 use native.Mathlib.Decide.{ℕ_discrete, dec_le}
 use lib.ListN.{get_elem?}
 use Rattle.atomic_table.specs.Table.{Final, Seen}
-use Rattle.clk_num.specs.Biased.{IsWordOf}
+use Rattle.clk_num.specs.Wrapping.{IsValue}
+use Rattle.clk_num.proofs.Heights.{same_above}
 use Rattle.clk_words.specs.declared.opening.Start.{Start}
 use Rattle.clk_words.specs.declared.step.Step.{Step}
 use Rattle.clk_words.specs.declared.view.View.{View}
 use Rattle.clk_words.specs.Histories.{opens_at, value_after, IsGlobalHistory, steps_by}
+use Rattle.clk_words.specs.Heights.{IsClockWord}
 use Rattle.clk_words.specs.Rights.{has_number}
 use Rattle.clk_words.specs.Views.{own_lists}
 use Rattle.clk_words.specs.Knowing.{HasAll}
@@ -253,12 +255,13 @@ end_low start history e w is low = let same = ap (λ (x : Ended). x.start.cpus) 
 
 pub end_fits : (start : Start) (history : List Step) (ws : List ℕ) (w n : ℕ) → AreEnded start history ws → w < start.cpus → get_elem? ws w ≡ some n → n < 2 ^ 63
 end_fits start history ws w n are low at =
-    let word = subst (λ k. IsWordOf (value_after (opens_at start) w history) k) (word_at ws w n at) (are.clocks w low) in
-    let range = are.range w in
+    let word = subst (IsClockWord start (value_after (opens_at start) w history)) (word_at ws w n at) (are.clocks w low) in
+    let range = (are.range w).2 in
     omega (arith, ints)
 
 pub end_value : (start : Start) (history : List Step) (ws : List ℕ) (w n : ℕ) → AreEnded start history ws → w < start.cpus → get_elem? ws w ≡ some n
-    → (x : ℤ) → IsWordOf x n → x ≡ value_after (opens_at start) w history
-end_value start history ws w n are low at x is =
-    let word = subst (λ k. IsWordOf (value_after (opens_at start) w history) k) (word_at ws w n at) (are.clocks w low) in
-    omega (arith, ints)
+    → (x : ℤ) → IsValue x → IsClockWord start x n → x ≡ value_after (opens_at start) w history
+end_value start history ws w n are low at x fits is =
+    let last = value_after (opens_at start) w history in
+    let word = subst (IsClockWord start last) (word_at ws w n at) (are.clocks w low) in
+    same_above (opens_at start) x last fits (are.range w).0 (omega (arith, ints))

@@ -4,9 +4,10 @@ use Rattle.std.proofs.lemmas.List.{get_or_append_left}
 use Rattle.std.proofs.Math.Seq.{get_or-append_seam, get_or-append-add}
 use mathlib.Core.Logic.{dite}
 use native.Mathlib.Decide.{ℕ_discrete}
-use Rattle.clk_num.specs.Biased.{IsWordOf}
+use Rattle.clk_num.specs.Wrapping.{IsBitsOf}
 use Rattle.clk_words.specs.declared.opening.Start.{Start}
 use Rattle.clk_words.specs.Histories.{opens_at}
+use Rattle.clk_words.specs.Heights.{IsClockWord}
 use Rattle.clk_words.specs.Parts.{gtod_of, raw_of}
 use Rattle.clk_words.specs.Views.{is_percpu}
 use Rattle.clk_words.specs.FirstWords.{pair_words, AreFirst}
@@ -90,8 +91,8 @@ module _ (cpus clock gtod raw mode offset : ℕ) where
       subst (λ k. get_or (laid cpus clock gtod raw mode offset) k 0 ≡ offset) long (get_or-append_seam (front ++ mode ∷ []) offset [] 0)
 
 -- they are the words of the start
-pub are_first : (start : Start) (clock gtod raw mode offset : ℕ) → IsWordOf (opens_at start) clock → IsWordOf start.opening.tick_gtod gtod → IsWordOf start.opening.tick_raw raw
-    → mode ≡ cond (is_percpu start.opening.mode) 1 0 → IsWordOf start.opening.offset offset → AreFirst start (laid start.cpus clock gtod raw mode offset)
+pub are_first : (start : Start) (clock gtod raw mode offset : ℕ) → IsClockWord start (opens_at start) clock → IsBitsOf start.opening.tick_gtod gtod → IsBitsOf start.opening.tick_raw raw
+    → mode ≡ cond (is_percpu start.opening.mode) 1 0 → IsBitsOf start.opening.offset offset → AreFirst start (laid start.cpus clock gtod raw mode offset)
 are_first start clock gtod raw mode offset p q r m o = record {
   wide = laid_length start.cpus clock gtod raw mode offset;
   clocks = λ w low. rw (laid_clock start.cpus clock gtod raw mode offset w low) p;

@@ -13,6 +13,7 @@ use Rattle.clk_words.specs.declared.view.Load.{Load}
 use Rattle.clk_words.specs.declared.view.Name.{Name}
 use Rattle.clk_words.specs.declared.view.Name.TheVariants.{Clock, Gtod, Raw}
 use Rattle.clk_words.specs.Kinds.{cpu_of}
+use Rattle.clk_words.specs.Histories.{opens_at}
 use Rattle.clk_words.specs.Bounds.{IsRaw}
 use Rattle.clk_words.specs.Parts.{gtod_of}
 use Rattle.clk_words.specs.Knowing.{HasLoaded, IsTrusted, StampsAreWhole}
@@ -82,7 +83,7 @@ kept_both u v w p q = record {
 still_trusted : (v w : View) (why : Why) → KeepsSeat v w → ((name : Name) (x : ℤ) → HasLoaded v name x → HasLoaded w name x) → IsTrusted v why → IsTrusted w why
 still_trusted v w (Raise raw tick_raw tick_gtod offset) kept more trusted =
     let kind = ap cpu_of kept.kind_is in (
-      trusted.0,
+      subst (λ (s : Start). IsRaw (opens_at s) raw) (sym kept.start_is) trusted.0,
       subst (λ k. HasLoaded w (Raw k) tick_raw) (sym kind) (more (Raw (cpu_of v.kind)) tick_raw trusted.1),
       subst (λ k. HasLoaded w (Gtod k) tick_gtod) (sym kind) (more (Gtod (cpu_of v.kind)) tick_gtod trusted.2),
       trusted.3 ∙ ap (λ (s : Start). s.opening.offset) (sym kept.start_is),
@@ -100,7 +101,7 @@ pub trusted_makes : (v w : View) (s : Step) (why : Why) → Makes v s w → IsTr
 trusted_makes v w s why told = still_trusted v w why (kept_makes v w s told) (λ name x has. subst (λ (u : View). HasLoaded u name x) (sym told.view_is) has)
 
 -- the half of a pair that was loaded, and the other half after it
-pub trusted_half : (v w : View) (raw tick_raw tick_gtod offset : ℤ) → IsRaw raw → HasLoaded v (Raw (cpu_of v.kind)) tick_raw → FindsGtod v (cpu_of v.kind) tick_gtod w
+pub trusted_half : (v w : View) (raw tick_raw tick_gtod offset : ℤ) → IsRaw (opens_at w.start) raw → HasLoaded v (Raw (cpu_of v.kind)) tick_raw → FindsGtod v (cpu_of v.kind) tick_gtod w
     → offset ≡ w.start.opening.offset → IsTrusted w (Raise raw tick_raw tick_gtod offset)
 trusted_half v w raw tick_raw tick_gtod offset bound one two is =
     let second = kept_stamp v w (gtod_of (cpu_of v.kind)) (Gtod (cpu_of v.kind)) tick_gtod two.finds in

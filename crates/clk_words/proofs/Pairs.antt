@@ -5,7 +5,7 @@ use mathlib.Core.Option.{some}
 use mathlib.Core.Logic.{dite}
 use native.Mathlib.Decide.{ℕ_discrete}
 use lib.ListN.{get_elem?}
-use Rattle.clk_num.specs.Biased.{IsWordOf}
+use Rattle.clk_num.specs.Wrapping.{IsBitsOf}
 use Rattle.clk_words.specs.declared.view.View.{View}
 use Rattle.clk_words.specs.declared.view.Part.{Part}
 use Rattle.clk_words.specs.declared.view.PairView.{PairView}
@@ -23,9 +23,9 @@ use Rattle.clk_words.proofs.Owning.{has_append, has_filtered, has_one}
 use Rattle.clk_words.proofs.Places.{placed, grown}
 
 -- a view changes, but not in what it knows of the stamps
-pub pairs_view : (cpus : ℕ) (chain : ℕ → Chain) (writer : ℕ → ℕ) (words : List ℕ) (views : List View) (id : ℕ) (v w : View)
-    → PairPart cpus chain writer words views → get_elem? views id ≡ some v → w.pairs ≡ v.pairs → PairPart cpus chain writer words (set views id w)
-pairs_view cpus chain writer words views id v w part at same =
+pub pairs_view : (cpus : ℕ) (opens : ℤ) (chain : ℕ → Chain) (writer : ℕ → ℕ) (words : List ℕ) (views : List View) (id : ℕ) (v w : View)
+    → PairPart cpus opens chain writer words views → get_elem? views id ≡ some v → w.pairs ≡ v.pairs → PairPart cpus opens chain writer words (set views id w)
+pairs_view cpus opens chain writer words views id v w part at same =
     let P : ℕ → View → Type 0 = λ j u. (c : ℕ) → has_number u.pairs.owns c ≡ true → writer c ≡ j in
     let Q : ℕ → View → Type 0 = λ j u. FitsPairs chain u.pairs in
     record {
@@ -40,9 +40,9 @@ pairs_view cpus chain writer words views id v w part at same =
     }
 
 -- a clock word changes
-pub pairs_clock : (cpus : ℕ) (chain : ℕ → Chain) (writer : ℕ → ℕ) (words : List ℕ) (views : List View) (i n : ℕ)
-    → i < cpus → PairPart cpus chain writer words views → PairPart cpus chain writer (set words i n) views
-pairs_clock cpus chain writer words views i n low part = record {
+pub pairs_clock : (cpus : ℕ) (opens : ℤ) (chain : ℕ → Chain) (writer : ℕ → ℕ) (words : List ℕ) (views : List View) (i n : ℕ)
+    → i < cpus → PairPart cpus opens chain writer words views → PairPart cpus opens chain writer (set words i n) views
+pairs_clock cpus opens chain writer words views i n low part = record {
   lasts = λ r small. let ne : cpus + r ≢ i = omega arith in rw (get_or-set_other words i (cpus + r) n 0 ne) (part.lasts r small);
   ahead = part.ahead;
   close = part.close;
@@ -84,11 +84,11 @@ found_part c p more = record { zero = Some c.zero_is; after = p.after ++ more }
 found_more : (c : Chain) (p : Part) (more : List ℤ) → Knows c p → PartBegins p (found_part c p more)
 found_more c p more knows = record { zero_is = knows.zero_is; after = begins_more p.after p.after more (begins_self p.after) }
 
-pub pairs_load : (cpus : ℕ) (chain : ℕ → Chain) (writer : ℕ → ℕ) (words : List ℕ) (views : List View) (id r : ℕ) (v w : View)
-    → PairPart cpus chain writer words views → get_elem? views id ≡ some v → (more : List ℤ) → (chain r).after ≡ (part_of v.pairs.parts r).after ++ more
+pub pairs_load : (cpus : ℕ) (opens : ℤ) (chain : ℕ → Chain) (writer : ℕ → ℕ) (words : List ℕ) (views : List View) (id r : ℕ) (v w : View)
+    → PairPart cpus opens chain writer words views → get_elem? views id ≡ some v → (more : List ℤ) → (chain r).after ≡ (part_of v.pairs.parts r).after ++ more
     → w.pairs ≡ record { parts = put_part v.pairs.parts r (found_part (chain r) (part_of v.pairs.parts r) more); owns = v.pairs.owns; told = v.pairs.told }
-    → PairPart cpus chain writer words (set views id w)
-pairs_load cpus chain writer words views id r v w part at more all is =
+    → PairPart cpus opens chain writer words (set views id w)
+pairs_load cpus opens chain writer words views id r v w part at more all is =
     let P : ℕ → View → Type 0 = λ j u. (c : ℕ) → has_number u.pairs.owns c ≡ true → writer c ≡ j in
     let Q : ℕ → View → Type 0 = λ j u. FitsPairs chain u.pairs in
     let fits = part.each id v at in
@@ -149,15 +149,15 @@ stored_pairs p r x = record {
   told = p.told;
 }
 
-pub pairs_store : (cpus : ℕ) (chain : ℕ → Chain) (writer : ℕ → ℕ) (words : List ℕ) (views : List View) (id r cpu n : ℕ) (x : ℤ) (v w : View)
-    → PairPart cpus chain writer words views → get_elem? views id ≡ some v → has_number v.pairs.owns cpu ≡ true → IsRegisterOf r cpu → cpus + r < length words → IsWordOf x n
+pub pairs_store : (cpus : ℕ) (opens : ℤ) (chain : ℕ → Chain) (writer : ℕ → ℕ) (words : List ℕ) (views : List View) (id r cpu n : ℕ) (x : ℤ) (v w : View)
+    → PairPart cpus opens chain writer words views → get_elem? views id ≡ some v → has_number v.pairs.owns cpu ≡ true → IsRegisterOf r cpu → cpus + r < length words → IsBitsOf x n
     → (part_of v.pairs.parts r).after ≡ (chain r).after
     → ((c : ℕ) → length (later_chain chain r x (raw_of c)).after ≤ length (later_chain chain r x (gtod_of c)).after)
     → ((c : ℕ) → length (later_chain chain r x (gtod_of c)).after ≤ length (later_chain chain r x (raw_of c)).after + 1)
-    → ((c : ℕ) → IsGtod (last_of (later_chain chain r x (gtod_of c)))) → ((c : ℕ) → IsRaw (last_of (later_chain chain r x (raw_of c))))
+    → ((c : ℕ) → IsGtod (last_of (later_chain chain r x (gtod_of c)))) → ((c : ℕ) → IsRaw opens (last_of (later_chain chain r x (raw_of c))))
     → w.pairs ≡ stored_pairs v.pairs r x
-    → PairPart cpus (later_chain chain r x) writer (set words (cpus + r) n) (set views id w)
-pairs_store cpus chain writer words views id r cpu n x v w part at own reg wide word whole ahead close gtods raws is =
+    → PairPart cpus opens (later_chain chain r x) writer (set words (cpus + r) n) (set views id w)
+pairs_store cpus opens chain writer words views id r cpu n x v w part at own reg wide word whole ahead close gtods raws is =
     let P : ℕ → View → Type 0 = λ j u. (c : ℕ) → has_number u.pairs.owns c ≡ true → writer c ≡ j in
     let Q : ℕ → View → Type 0 = λ j u. FitsPairs chain u.pairs × P j u in
     let R : ℕ → View → Type 0 = λ j u. FitsPairs (later_chain chain r x) u.pairs in
@@ -166,7 +166,7 @@ pairs_store cpus chain writer words views id r cpu n x v w part at own reg wide 
     let mine = part.writers id v at cpu own in
     record {
       lasts = λ k low. dite (ℕ_discrete k r)
-          (λ e. subst (λ i. IsWordOf (last_of (later_chain chain r x i)) (get_or (set words (cpus + r) n) (cpus + i) 0)) (sym e)
+          (λ e. subst (λ i. IsBitsOf (last_of (later_chain chain r x i)) (get_or (set words (cpus + r) n) (cpus + i) 0)) (sym e)
           (rw (get_or-set_same words (cpus + r) n 0 wide, later_here chain r x, last_more (chain r).zero_is x (chain r).after) word))
           (λ ne. let away : cpus + k ≢ cpus + r = λ h. ne (omega arith) in
           rw (get_or-set_other words (cpus + r) (cpus + k) n 0 away, later_else chain r k x ne) (part.lasts k low));
@@ -242,10 +242,10 @@ writes_given (Owner cpu) writer place c own = let t = eq-eqb c cpu (sym (has_one
 writes_given (Reader cpu) writer place c own = absurd (cc)
 writes_given Watch writer place c own = absurd (cc)
 
-pub pairs_split : (cpus : ℕ) (chain : ℕ → Chain) (writer : ℕ → ℕ) (words : List ℕ) (views : List View) (id : ℕ) (v : View) (kind : SeatKind)
-    → PairPart cpus chain writer words views → get_elem? views id ≡ some v → HasGift kind v.pairs
-    → PairPart cpus chain (hands kind writer (length views)) words (set views id (giver_view kind v) ++ given_view kind v ∷ [])
-pairs_split cpus chain writer words views id v kind part at has =
+pub pairs_split : (cpus : ℕ) (opens : ℤ) (chain : ℕ → Chain) (writer : ℕ → ℕ) (words : List ℕ) (views : List View) (id : ℕ) (v : View) (kind : SeatKind)
+    → PairPart cpus opens chain writer words views → get_elem? views id ≡ some v → HasGift kind v.pairs
+    → PairPart cpus opens chain (hands kind writer (length views)) words (set views id (giver_view kind v) ++ given_view kind v ∷ [])
+pairs_split cpus opens chain writer words views id v kind part at has =
     let place = length views in
     let wide : length (set views id (giver_view kind v)) ≡ place = length-set views id (giver_view kind v) in
     let P : ℕ → View → Type 0 = λ j u. (c : ℕ) → has_number u.pairs.owns c ≡ true → writer c ≡ j in
@@ -306,10 +306,10 @@ fits_spent chain = record {
   told_is = no_told [];
 }
 
-pub pairs_join : (cpus : ℕ) (chain : ℕ → Chain) (writer : ℕ → ℕ) (words : List ℕ) (views : List View) (id other : ℕ) (v w : View)
-    → PairPart cpus chain writer words views → get_elem? views id ≡ some v → get_elem? views other ≡ some w → other ≢ id
-    → PairPart cpus chain (λ c. cond (nat_eq (writer c) other) id (writer c)) words (set (set views id (joint_view v w)) other spent_view)
-pairs_join cpus chain writer words views id other v w part at there ne =
+pub pairs_join : (cpus : ℕ) (opens : ℤ) (chain : ℕ → Chain) (writer : ℕ → ℕ) (words : List ℕ) (views : List View) (id other : ℕ) (v w : View)
+    → PairPart cpus opens chain writer words views → get_elem? views id ≡ some v → get_elem? views other ≡ some w → other ≢ id
+    → PairPart cpus opens chain (λ c. cond (nat_eq (writer c) other) id (writer c)) words (set (set views id (joint_view v w)) other spent_view)
+pairs_join cpus opens chain writer words views id other v w part at there ne =
     let moved : ℕ → ℕ = λ c. cond (nat_eq (writer c) other) id (writer c) in
     let P : ℕ → View → Type 0 = λ j u. (c : ℕ) → has_number u.pairs.owns c ≡ true → writer c ≡ j in
     let M : ℕ → View → Type 0 = λ j u. j ≢ other → (c : ℕ) → has_number u.pairs.owns c ≡ true → moved c ≡ j in
@@ -339,10 +339,10 @@ pairs_join cpus chain writer words views id other v w part at there ne =
     }
 
 -- what was told is let go
-pub pairs_told : (cpus : ℕ) (chain : ℕ → Chain) (writer : ℕ → ℕ) (words : List ℕ) (views : List View) (id : ℕ) (v w : View)
-    → PairPart cpus chain writer words views → get_elem? views id ≡ some v
-    → w.pairs ≡ record { parts = v.pairs.parts; owns = v.pairs.owns; told = [] } → PairPart cpus chain writer words (set views id w)
-pairs_told cpus chain writer words views id v w part at is =
+pub pairs_told : (cpus : ℕ) (opens : ℤ) (chain : ℕ → Chain) (writer : ℕ → ℕ) (words : List ℕ) (views : List View) (id : ℕ) (v w : View)
+    → PairPart cpus opens chain writer words views → get_elem? views id ≡ some v
+    → w.pairs ≡ record { parts = v.pairs.parts; owns = v.pairs.owns; told = [] } → PairPart cpus opens chain writer words (set views id w)
+pairs_told cpus opens chain writer words views id v w part at is =
     let P : ℕ → View → Type 0 = λ j u. (c : ℕ) → has_number u.pairs.owns c ≡ true → writer c ≡ j in
     let Q : ℕ → View → Type 0 = λ j u. FitsPairs chain u.pairs in
     let fits = part.each id v at in

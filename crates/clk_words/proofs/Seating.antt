@@ -10,6 +10,7 @@ use Rattle.clk_words.specs.declared.view.View.{View}
 use Rattle.clk_words.specs.declared.kind.SeatKind.{SeatKind}
 use Rattle.clk_words.specs.Fronts.{Begins}
 use Rattle.clk_words.specs.Kinds.{is_watch}
+use Rattle.clk_words.specs.Histories.{opens_at}
 use Rattle.clk_words.specs.Views.{giver_view, given_view, joint_view, spent_view, settled}
 use Rattle.clk_words.specs.Kept.{Fits, Kept}
 use Rattle.clk_words.specs.Told.{Met}
@@ -22,7 +23,7 @@ pub gives : (start : Start) (id : ℕ) (v : View) (kind : SeatKind) → v.live �
     → Splits (Kept start) id v (giver_view kind v) (given_view kind v)
 gives start id v kind live may gift watch s kept at =
     let clocks = clocks_split start kept.history kept.made kept.holder kept.splitter s.words s.views id v kind kept.clocks at live may in
-    let pairs = pairs_split start.cpus kept.chain kept.writer s.words s.views id v kind kept.pairs at gift in
+    let pairs = pairs_split start.cpus (opens_at start) kept.chain kept.writer s.words s.views id v kind kept.pairs at gift in
     let modes = modes_split start kept.percpu kept.offset kept.watcher s.words s.views id v kind kept.modes at watch in
     record {
       history = kept.history;
@@ -46,7 +47,7 @@ pub glues : (start : Start) (id other : ℕ) (v w : View) → v.live ≡ true �
 glues start id other v w live alive s kept at apart there =
     let theirs = at_other s.views id other (joint_view v w) w apart there in
     let clocks = clocks_join start kept.history kept.made kept.holder kept.splitter s.words s.views id other v w kept.clocks at theirs apart live alive in
-    let pairs = pairs_join start.cpus kept.chain kept.writer s.words s.views id other v w kept.pairs at theirs apart in
+    let pairs = pairs_join start.cpus (opens_at start) kept.chain kept.writer s.words s.views id other v w kept.pairs at theirs apart in
     let modes = modes_join start kept.percpu kept.offset kept.watcher s.words s.views id other v w kept.modes at theirs apart in
     record {
       history = kept.history;
@@ -98,7 +99,7 @@ meets start slots id i me live s kept homes at small =
             lifts_first = kept.lifts_first;
             lifted = kept.lifted;
             clocks = clocks_view start kept.history kept.made kept.holder kept.splitter s.words s.views id w kept.clocks (λ alive. now);
-            pairs = pairs_told start.cpus kept.chain kept.writer s.words s.views id v w kept.pairs at refl;
+            pairs = pairs_told start.cpus (opens_at start) kept.chain kept.writer s.words s.views id v w kept.pairs at refl;
             modes = modes_view start kept.percpu kept.offset kept.watcher s.words s.views id v w kept.modes at refl;
           }),
       record {

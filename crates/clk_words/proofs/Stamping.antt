@@ -5,7 +5,7 @@ use mathlib.Core.Logic.{dite}
 use native.Mathlib.Decide.{ℕ_discrete}
 use lib.ListN.{get_elem?}
 use Rattle.atomic_table.specs.Table.{State, Me, keeps, step, Allows}
-use Rattle.clk_num.specs.Biased.{IsWordOf}
+use Rattle.clk_num.specs.Wrapping.{IsBitsOf}
 use Rattle.clk_words.specs.declared.opening.Start.{Start}
 use Rattle.clk_words.specs.declared.step.Step.{Step}
 use Rattle.clk_words.specs.declared.view.View.{View}
@@ -13,6 +13,7 @@ use Rattle.clk_words.specs.declared.view.Part.{Part}
 use Rattle.clk_words.specs.declared.view.Name.{Name}
 use Rattle.clk_words.specs.declared.view.Name.TheVariants.{Gtod, Raw}
 use Rattle.clk_words.specs.Kinds.{cpu_of}
+use Rattle.clk_words.specs.Histories.{opens_at}
 use Rattle.clk_words.specs.Bounds.{IsGtod, IsRaw}
 use Rattle.clk_words.specs.Parts.{gtod_of, raw_of, part_of, put_part, last_from}
 use Rattle.clk_words.specs.Rights.{has_number}
@@ -54,7 +55,7 @@ keeps_load start s id i r v name x more kept at live all =
       lifted = kept.lifted;
       clocks = clocks_view start kept.history kept.made kept.holder kept.splitter s.words s.views id w kept.clocks
           (λ alive. fits_seen start kept.history kept.made kept.holder kept.splitter id v v.seen w.loads w.pairs fits (begins_self v.seen) fits.front);
-      pairs = pairs_load start.cpus kept.chain kept.writer s.words s.views id r v w kept.pairs at more all refl;
+      pairs = pairs_load start.cpus (opens_at start) kept.chain kept.writer s.words s.views id r v w kept.pairs at more all refl;
       modes = modes_view start kept.percpu kept.offset kept.watcher s.words s.views id v w kept.modes at refl;
     })
 
@@ -132,7 +133,7 @@ finds_raw start slots id me live low s kept homes at small =
         finds = record {
           finds = finds_of v r (Raw cpu) c more knows all;
           whole = λ own. none_more (part_of v.pairs.parts r).after c.after more all (fits.raws cpu own);
-          range = kept.pairs.raws cpu;
+          range = subst (λ (o : Start). IsRaw (opens_at o) x) (sym (kept.clocks.each id v at live).start_is) (kept.pairs.raws cpu);
         };
         slots_kept = refl;
       },
@@ -140,11 +141,11 @@ finds_raw start slots id me live low s kept homes at small =
 
 -- the owner's stores
 keeps_store : (start : Start) (s : State Step View) (id r cpu n : ℕ) (x : ℤ) (v : View) → (kept : Kept start s)
-    → get_elem? s.views id ≡ some v → v.live ≡ true → has_number v.pairs.owns cpu ≡ true → cpu < start.cpus → IsRegisterOf r cpu → IsWordOf x n
+    → get_elem? s.views id ≡ some v → v.live ≡ true → has_number v.pairs.owns cpu ≡ true → cpu < start.cpus → IsRegisterOf r cpu → IsBitsOf x n
     → (part_of v.pairs.parts r).after ≡ (kept.chain r).after
     → ((c : ℕ) → length (later_chain kept.chain r x (raw_of c)).after ≤ length (later_chain kept.chain r x (gtod_of c)).after)
     → ((c : ℕ) → length (later_chain kept.chain r x (gtod_of c)).after ≤ length (later_chain kept.chain r x (raw_of c)).after + 1)
-    → ((c : ℕ) → IsGtod (last_of (later_chain kept.chain r x (gtod_of c)))) → ((c : ℕ) → IsRaw (last_of (later_chain kept.chain r x (raw_of c))))
+    → ((c : ℕ) → IsGtod (last_of (later_chain kept.chain r x (gtod_of c)))) → ((c : ℕ) → IsRaw (opens_at start) (last_of (later_chain kept.chain r x (raw_of c))))
     → Kept start (record { words = set s.words (start.cpus + r) n; homes = s.homes; views = set s.views id (stamped r x v) })
 keeps_store start s id r cpu n x v kept at live own low reg word whole ahead close gtods raws =
     let w = stamped r x v in
@@ -166,7 +167,7 @@ keeps_store start s id r cpu n x v kept at live own low reg word whole ahead clo
       clocks = clocks_view start kept.history kept.made kept.holder kept.splitter (set s.words (start.cpus + r) n) s.views id w
           (clocks_words start kept.history kept.made kept.holder kept.splitter s.words s.views (start.cpus + r) n (omega arith) kept.clocks)
           (λ alive. fits_seen start kept.history kept.made kept.holder kept.splitter id v v.seen v.loads w.pairs fits (begins_self v.seen) fits.front);
-      pairs = pairs_store start.cpus kept.chain kept.writer s.words s.views id r cpu n x v w kept.pairs at own reg (omega (arith, kept.wide)) word whole ahead close gtods raws refl;
+      pairs = pairs_store start.cpus (opens_at start) kept.chain kept.writer s.words s.views id r cpu n x v w kept.pairs at own reg (omega (arith, kept.wide)) word whole ahead close gtods raws refl;
       modes = modes_view start kept.percpu kept.offset kept.watcher (set s.words (start.cpus + r) n) s.views id v w
           (modes_word start kept.percpu kept.offset kept.watcher s.words s.views (start.cpus + r) n (omega arith) kept.modes) at refl;
     }
@@ -184,7 +185,7 @@ last_else : (P : ℤ → Type 0) (chain : ℕ → Chain) (r k : ℕ) (x : ℤ) �
 last_else P chain r k x ne old = rw (later_else chain r k x ne) old
 
 pub stores_gtod : (start : Start) (slots id n : ℕ) (me : Me Step View) (x : ℤ) → me.0.live ≡ true → cpu_of me.0.kind < start.cpus
-    → has_number me.0.pairs.owns (cpu_of me.0.kind) ≡ true → IsWordOf x n → IsGtod x
+    → has_number me.0.pairs.owns (cpu_of me.0.kind) ≡ true → IsBitsOf x n → IsGtod x
     → length (part_of me.0.pairs.parts (gtod_of (cpu_of me.0.kind))).after ≡ length (part_of me.0.pairs.parts (raw_of (cpu_of me.0.kind))).after
     → Allows (Kept start) slots id me (start.cpus + gtod_of (cpu_of me.0.kind)) (λ _. n)
     (λ _. StoredGtod (step slots (start.cpus + gtod_of (cpu_of me.0.kind)) n 0 none) me n)
@@ -215,12 +216,12 @@ stores_gtod start slots id n me x live low own word bound turn s kept homes at s
           (λ ne. let apart : raw_of c ≢ r = λ h. omega arith in
           rw (later_else kept.chain r (gtod_of c) x ne, later_else kept.chain r (raw_of c) x apart) (kept.pairs.close c)))
           (λ c. last_at IsGtod kept.chain r (gtod_of c) x bound (kept.pairs.gtods c))
-          (λ c. last_else IsRaw kept.chain r (raw_of c) x (λ h. omega arith) (kept.pairs.raws c)),
+          (λ c. last_else (IsRaw (opens_at start)) kept.chain r (raw_of c) x (λ h. omega arith) (kept.pairs.raws c)),
       record { value = x; word_is = word; is = refl },
     )
 
 pub stores_raw : (start : Start) (slots id n : ℕ) (me : Me Step View) (x : ℤ) → me.0.live ≡ true → cpu_of me.0.kind < start.cpus
-    → has_number me.0.pairs.owns (cpu_of me.0.kind) ≡ true → IsWordOf x n → IsRaw x
+    → has_number me.0.pairs.owns (cpu_of me.0.kind) ≡ true → IsBitsOf x n → IsRaw (opens_at start) x
     → length (part_of me.0.pairs.parts (gtod_of (cpu_of me.0.kind))).after ≡ length (part_of me.0.pairs.parts (raw_of (cpu_of me.0.kind))).after + 1
     → Allows (Kept start) slots id me (start.cpus + raw_of (cpu_of me.0.kind)) (λ _. n)
     (λ _. StoredRaw (step slots (start.cpus + raw_of (cpu_of me.0.kind)) n 0 none) me n)
@@ -251,7 +252,7 @@ stores_raw start slots id n me x live low own word bound turn s kept homes at sm
           (let long = after_grown (kept.chain r) x in let was = kept.pairs.close c in let same = ap (λ i. length (kept.chain i).after) e in omega arith)))
           (λ ne. rw (later_else kept.chain r (gtod_of c) x apart, later_else kept.chain r (raw_of c) x ne) (kept.pairs.close c)))
           (λ c. last_else IsGtod kept.chain r (gtod_of c) x (λ h. omega arith) (kept.pairs.gtods c))
-          (λ c. last_at IsRaw kept.chain r (raw_of c) x bound (kept.pairs.raws c)),
+          (λ c. last_at (IsRaw (opens_at start)) kept.chain r (raw_of c) x bound (kept.pairs.raws c)),
       record { value = x; word_is = word; is = refl },
     )
 
@@ -267,14 +268,14 @@ finds_raw_at start slots id word me e live low =
     subst (λ i. Allows (Kept start) slots id me i (λ n. n) (LoadedRaw (step slots i 0 0 none) me)) (sym e) (finds_raw start slots id me live low)
 
 pub stores_gtod_at : (start : Start) (slots id word n : ℕ) (me : Me Step View) (x : ℤ) → word ≡ start.cpus + gtod_of (cpu_of me.0.kind) → me.0.live ≡ true → cpu_of me.0.kind < start.cpus
-    → has_number me.0.pairs.owns (cpu_of me.0.kind) ≡ true → IsWordOf x n → IsGtod x
+    → has_number me.0.pairs.owns (cpu_of me.0.kind) ≡ true → IsBitsOf x n → IsGtod x
     → length (part_of me.0.pairs.parts (gtod_of (cpu_of me.0.kind))).after ≡ length (part_of me.0.pairs.parts (raw_of (cpu_of me.0.kind))).after
     → Allows (Kept start) slots id me word (λ _. n) (λ _. StoredGtod (step slots word n 0 none) me n)
 stores_gtod_at start slots id word n me x e live low own is bound turn =
     subst (λ i. Allows (Kept start) slots id me i (λ _. n) (λ _. StoredGtod (step slots i n 0 none) me n)) (sym e) (stores_gtod start slots id n me x live low own is bound turn)
 
 pub stores_raw_at : (start : Start) (slots id word n : ℕ) (me : Me Step View) (x : ℤ) → word ≡ start.cpus + raw_of (cpu_of me.0.kind) → me.0.live ≡ true → cpu_of me.0.kind < start.cpus
-    → has_number me.0.pairs.owns (cpu_of me.0.kind) ≡ true → IsWordOf x n → IsRaw x
+    → has_number me.0.pairs.owns (cpu_of me.0.kind) ≡ true → IsBitsOf x n → IsRaw (opens_at start) x
     → length (part_of me.0.pairs.parts (gtod_of (cpu_of me.0.kind))).after ≡ length (part_of me.0.pairs.parts (raw_of (cpu_of me.0.kind))).after + 1
     → Allows (Kept start) slots id me word (λ _. n) (λ _. StoredRaw (step slots word n 0 none) me n)
 stores_raw_at start slots id word n me x e live low own is bound turn =

@@ -1,13 +1,12 @@
 -- The rule holds of new words and their first seat.
-use Rattle.std.proofs.Common.{◌≡◌, ℕ, zero, suc, ◌+◌, ◌*◌, ◌/◌, ◌%◌, ◌<◌, ◌≤◌, ◌⊎◌, ℤ, ◌+ℤ◌, true, false, cond, List, [], ◌∷◌, get_or, nat_eq, Some, refl, sym, ap, subst, inl, inr, ⊎_elim, arith, eq-eqb, ne_eqb, true≢false, ◌∙◌}
-use Rattle.std.proofs.lemmas.Int.{ints}
+use Rattle.std.proofs.Common.{◌≡◌, ℕ, zero, suc, ◌+◌, ◌*◌, ◌/◌, ◌%◌, ◌<◌, ◌≤◌, ◌⊎◌, ℤ, true, false, cond, List, [], ◌∷◌, get_or, nat_eq, Some, refl, sym, ap, subst, inl, inr, ⊎_elim, arith, eq-eqb, ne_eqb, true≢false, ◌∙◌}
 use Rattle.std.proofs.lemmas.List.Elements.{All-nil, All-cons}
 use mathlib.Core.Option.{some, some-injective, some-ne-none}
 use mathlib.Core.Logic.{dite}
 use native.Mathlib.Decide.{ℕ_discrete}
 use lib.ListN.{get_elem?}
 use Rattle.atomic_table.specs.Table.{opening}
-use Rattle.clk_num.specs.Biased.{IsWordOf}
+use Rattle.clk_num.specs.Wrapping.{IsBitsOf}
 use Rattle.clk_words.specs.declared.opening.Mode.TheVariants.{PerCpu}
 use Rattle.clk_words.specs.declared.opening.Opening.{Opening}
 use Rattle.clk_words.specs.declared.opening.Start.{Start}
@@ -15,13 +14,15 @@ use Rattle.clk_words.specs.declared.step.Step.{Step}
 use Rattle.clk_words.specs.declared.view.View.{View}
 use Rattle.clk_words.specs.declared.view.Part.{Part}
 use Rattle.clk_words.specs.Fronts.{Begins}
-use Rattle.clk_words.specs.Bounds.{IsOpening, IsClock}
+use Rattle.clk_words.specs.Histories.{opens_at}
+use Rattle.clk_words.specs.Bounds.{IsOpening}
 use Rattle.clk_words.specs.Parts.{gtod_of, raw_of, part_of, PartBegins}
 use Rattle.clk_words.specs.Rights.{has_number}
 use Rattle.clk_words.specs.Views.{is_percpu, pairs_known, first_view}
 use Rattle.clk_words.specs.Kept.{IsOwn, Fits, HistoryPart, Chain, Knows, FitsPairs, PairPart, FitsModes, ModePart, Kept}
 use Rattle.clk_words.specs.FirstWords.{AreFirst}
 use Rattle.clk_words.proofs.Fronts.{begins_self}
+use Rattle.clk_words.proofs.Replay.{opening_range}
 
 -- the only view
 only : (w u : View) (j : ℕ) → get_elem? (w ∷ []) j ≡ some u → (j ≡ 0) × (w ≡ u)
@@ -60,21 +61,18 @@ first_after (suc n) (suc (suc r)) o = first_after n r o
 half_of : (r : ℕ) → (r ≡ 2 * (r / 2)) ⊎ (r ≡ 2 * (r / 2) + 1)
 half_of r = dite (ℕ_discrete r (2 * (r / 2))) (λ e. inl e) (λ n. inr (omega arith))
 
-opening_range : (o : Opening) → IsOpening o → IsClock (o.tick_gtod +ℤ o.offset)
-opening_range o is = (omega (arith, ints, is.offset, is.gtod), omega (arith, ints, is.offset, is.gtod))
-
 count_one : (n : ℕ) (b : List Step) → Rattle.clk_words.proofs.Places.times n ((0, b) ∷ []) ≤ 1
 count_one n b =
     dite (ℕ_discrete 0 n)
     (λ e. let t = eq-eqb 0 n e in rw t (omega arith))
     (λ k. let t = ne_eqb 0 n k in rw t (omega arith))
 
-starts_clocks : (start : Start) (ws : List ℕ) → IsOpening start.opening → AreFirst start ws → HistoryPart start [] 1 (λ _. 0) 0 ws (first_view start ∷ [])
-starts_clocks start ws bounds first = record {
+starts_clocks : (start : Start) (ws : List ℕ) → AreFirst start ws → HistoryPart start [] 1 (λ _. 0) 0 ws (first_view start ∷ [])
+starts_clocks start ws first = record {
   legal = tt;
   made_by = All-nil (λ (s : Step). s.by < 1);
   clocks = first.clocks;
-  range = λ w. opening_range start.opening bounds;
+  range = λ w. opening_range start;
   each = only_one (λ j u. u.live ≡ true → Fits start [] 1 (λ _. 0) 0 j u) (first_view start) (λ live. record {
     start_is = refl;
     front = begins_self [];
@@ -88,16 +86,16 @@ starts_clocks start ws bounds first = record {
 }
 
 starts_pairs : (start : Start) (ws : List ℕ) → start.opening.mode ≡ PerCpu → IsOpening start.opening → AreFirst start ws
-    → PairPart start.cpus (λ r. record { zero_is = first_value start.opening r; after = [] }) (λ _. 0) ws (first_view start ∷ [])
+    → PairPart start.cpus (opens_at start) (λ r. record { zero_is = first_value start.opening r; after = [] }) (λ _. 0) ws (first_view start ∷ [])
 starts_pairs start ws mode bounds first =
     let chain : ℕ → Chain = λ r. record { zero_is = first_value start.opening r; after = [] } in
     let percpu : is_percpu start.opening.mode ≡ true = ap is_percpu mode in
     let parts : (first_view start).pairs.parts ≡ pairs_known start.cpus start.opening = rw percpu refl in
     record {
       lasts = λ r low. ⊎_elim
-          (λ (e : r ≡ 2 * (r / 2)). subst (λ k. IsWordOf (first_value start.opening k) (get_or ws (start.cpus + k) 0)) (sym e)
+          (λ (e : r ≡ 2 * (r / 2)). subst (λ k. IsBitsOf (first_value start.opening k) (get_or ws (start.cpus + k) 0)) (sym e)
           (rw (first_gtod start.opening (r / 2)) (first.gtods (r / 2) (omega arith))))
-          (λ (e : r ≡ 2 * (r / 2) + 1). subst (λ k. IsWordOf (first_value start.opening k) (get_or ws (start.cpus + k) 0)) (sym e)
+          (λ (e : r ≡ 2 * (r / 2) + 1). subst (λ k. IsBitsOf (first_value start.opening k) (get_or ws (start.cpus + k) 0)) (sym e)
           (rw (first_raw start.opening (r / 2)) (first.raws (r / 2) (omega arith))))
           (half_of r);
       ahead = λ c. omega arith;
@@ -140,7 +138,7 @@ starts start ws mode bounds first = record {
   wide = first.wide;
   lifts_first = λ stable. absurd (true≢false (sym (ap is_percpu mode) ∙ stable));
   lifted = λ e stable. absurd (true≢false (sym (ap is_percpu mode) ∙ ap is_percpu stable));
-  clocks = starts_clocks start ws bounds first;
+  clocks = starts_clocks start ws first;
   pairs = starts_pairs start ws mode bounds first;
   modes = starts_modes start ws mode first;
 }

@@ -1,24 +1,32 @@
--- The bounds on what is handed in, all in ns.
-use Rattle.std.specs.Prelude.{◌^◌, ℤ, pos, ◌≤ℤ◌}
-use Rattle.clk_num.specs.Range.{IsNear}
+-- The bounds on what is handed in, all in ns. Values wrap, so all but a GTOD are bounded from the words' opening on.
+use Rattle.std.specs.Prelude.{◌-◌, ◌^◌, ℤ, pos, ◌+ℤ◌, ◌-ℤ◌, ◌≤ℤ◌}
+use Rattle.clk_num.specs.Range.{IsNear, IsFrom0To}
+use Rattle.clk_num.specs.Wrapping.{IsValue, wrap, above}
 use Rattle.clk_words.specs.declared.opening.Opening.{Opening}
+
+-- what each clock word begins with
+abbrev pub opens_of : Opening → ℤ
+opens_of o = wrap (o.tick_gtod +ℤ o.offset)
 
 -- a monotonic time
 abbrev pub IsGtod : ℤ → Type 0
-IsGtod x = (pos 0 ≤ℤ x) × (x ≤ℤ pos (2 ^ 41))
+IsGtod x = IsFrom0To (2 ^ 42) x
 
--- a raw reading or an offset
-abbrev pub IsRaw : ℤ → Type 0
-IsRaw x = IsNear 59 x
+-- a raw reading
+abbrev pub IsRaw : ℤ → ℤ → Type 0
+IsRaw opens x = IsNear 59 (above x opens)
+
+abbrev pub IsOffset : ℤ → ℤ → Type 0
+IsOffset opens x = ((pos 0 -ℤ pos (2 ^ 59 - 2 ^ 42)) ≤ℤ above x opens) × (above x opens ≤ℤ pos (2 ^ 59 - 2 ^ 42))
 
 -- the value of a clock word; it follows from the others
-abbrev pub IsClock : ℤ → Type 0
-IsClock x = IsNear 60 x
+abbrev pub IsClock : ℤ → ℤ → Type 0
+IsClock opens x = IsValue x × (pos 0 ≤ℤ above x opens) × (above x opens ≤ℤ pos (2 ^ 60))
 
 abbrev pub IsTick : ℤ → Type 0
 IsTick x = (pos 1 ≤ℤ x) × (x ≤ℤ pos (2 ^ 30))
 
+-- its offset is in range by itself
 pub record IsOpening (o : Opening) : Type 0 where
-  pub offset : IsRaw o.offset
   pub gtod : IsGtod o.tick_gtod
-  pub raw : IsRaw o.tick_raw
+  pub raw : IsRaw (opens_of o) o.tick_raw

@@ -1,6 +1,7 @@
 -- What a call does to a seat, and what the history is at the end.
-use Rattle.std.specs.Prelude.{◌≡◌, ℕ, ◌<◌, ℤ, ◌<ℤ◌, List, flat_map, All}
+use Rattle.std.specs.Prelude.{◌≡◌, ℕ, ◌<◌, ℤ, List, flat_map, All}
 use Rattle.std.specs.List.{sum_by}
+use Rattle.clk_num.specs.Wrapping.{IsAbove}
 use Rattle.clk_words.specs.declared.opening.Start.{Start}
 use Rattle.clk_words.specs.declared.step.Step.{Step}
 use Rattle.clk_words.specs.declared.step.Why.{Why}
@@ -31,7 +32,7 @@ OnLost (Lost found) P = P found
 pub record Loses (v : View) (word : ℕ) (old found : ℤ) (w : View) : Type 0 where
   pub looks : Looks v w
   pub value_is : value_after (opens_at v.start) word w.seen ≡ found
-  pub later : old <ℤ found
+  pub later : IsAbove found old
 
 -- two seats as one: what either side had seen begins what is kept, and an owner's list is kept as it was
 pub record Joins (a b w : View) : Type 0 where

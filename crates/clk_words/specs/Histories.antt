@@ -1,16 +1,17 @@
 -- One history over all clock words.
-use Rattle.std.specs.Prelude.{◌≡◌, ℕ, ℤ, ◌+ℤ◌, List, [], ◌∷◌, ◌++◌, filter, nat_eq, if◌then◌else◌, Bool, true, false, ◌&&◌, ◌||◌, ◌<◌, All, IsTrue}
-use Rattle.clk_num.specs.Clamp.{raise}
+use Rattle.std.specs.Prelude.{◌≡◌, ℕ, ℤ, List, [], ◌∷◌, ◌++◌, filter, nat_eq, if◌then◌else◌, Bool, true, false, ◌&&◌, ◌||◌, ◌<◌, All, IsTrue}
+use Rattle.clk_num.specs.Wrapping.{raise}
 use Rattle.clk_words.specs.declared.opening.Mode.TheVariants.{Stable}
 use Rattle.clk_words.specs.declared.opening.Start.{Start}
 use Rattle.clk_words.specs.declared.step.Step.{Step}
 use Rattle.clk_words.specs.declared.step.Why.{Why}
 use Rattle.clk_words.specs.declared.step.Why.TheVariants.{Raise, Couple, Lift}
+use Rattle.clk_words.specs.Bounds.{opens_of, IsClock}
 use Rattle.clk_words.specs.Targets.{target}
 
 -- what each clock word begins with
 abbrev pub opens_at : Start → ℤ
-opens_at start = start.opening.tick_gtod +ℤ start.opening.offset
+opens_at start = opens_of start.opening
 
 -- what the word w holds after these steps, if it held x before them
 abbrev pub value_after : ℤ → ℕ → List Step → ℤ
@@ -50,10 +51,11 @@ IsInOrder start before (Raise raw tick_raw tick_gtod offset) = AllLifted start b
 IsInOrder start before (Couple from value) = AllLifted start before
 IsInOrder start before (Lift value) = All (λ s. IsTrue (is_lift s.why)) before
 
--- the step may come after these: its word held `old`, and is raised to the target
+-- the step may come after these: its word held `old`, and is raised to the target; by signs alone steps could go round
 pub record Follows (start : Start) (before : List Step) (s : Step) : Type 0 where
   pub old_is : s.old ≡ value_after (opens_at start) s.word before
   pub new_is : s.new ≡ raise s.old (target start.tick s.why)
+  pub range : IsClock (opens_at start) s.new
   pub names : NamesHeld start before s.why
   pub in_order : IsInOrder start before s.why
 

@@ -4,7 +4,7 @@ use Rattle.std.specs.List.{count_by}
 use mathlib.Core.Option.{some}
 use lib.ListN.{get_elem?}
 use Rattle.atomic_table.specs.Table.{State}
-use Rattle.clk_num.specs.Biased.{IsWordOf}
+use Rattle.clk_num.specs.Wrapping.{IsBitsOf}
 use Rattle.clk_words.specs.declared.opening.Start.{Start}
 use Rattle.clk_words.specs.declared.opening.Mode.TheVariants.{PerCpu}
 use Rattle.clk_words.specs.declared.step.Step.{Step}
@@ -14,6 +14,7 @@ use Rattle.clk_words.specs.declared.view.PairView.{PairView}
 use Rattle.clk_words.specs.declared.view.ModeView.{ModeView}
 use Rattle.clk_words.specs.Fronts.{Begins}
 use Rattle.clk_words.specs.Histories.{is_lift, AllLifted, opens_at, value_after, IsGlobalHistory, steps_by}
+use Rattle.clk_words.specs.Heights.{IsClockWord}
 use Rattle.clk_words.specs.Bounds.{IsGtod, IsRaw, IsClock}
 use Rattle.clk_words.specs.Parts.{gtod_of, raw_of, part_of, last_from, PartBegins}
 use Rattle.clk_words.specs.Rights.{has_number}
@@ -39,8 +40,8 @@ pub record Fits (start : Start) (history : List Step) (made : ℕ) (holder : ℕ
 pub record HistoryPart (start : Start) (history : List Step) (made : ℕ) (holder : ℕ → ℕ) (splitter : ℕ) (words : List ℕ) (views : List View) : Type 0 where
   pub legal : IsGlobalHistory start history
   pub made_by : All (λ s. s.by < made) history
-  pub clocks : (w : ℕ) → w < start.cpus → IsWordOf (value_after (opens_at start) w history) (slice_index words w)
-  pub range : (w : ℕ) → IsClock (value_after (opens_at start) w history)
+  pub clocks : (w : ℕ) → w < start.cpus → IsClockWord start (value_after (opens_at start) w history) (slice_index words w)
+  pub range : (w : ℕ) → IsClock (opens_at start) (value_after (opens_at start) w history)
   pub each : (j : ℕ) (v : View) → get_elem? views j ≡ some v → v.live ≡ true → Fits start history made holder splitter j v
 
 -- the values that a stamp word has held
@@ -64,12 +65,12 @@ pub record FitsPairs (chain : ℕ → Chain) (p : PairView) : Type 0 where
   pub told_is : All (λ parts. (r : ℕ) → PartBegins (part_of parts r) (part_of p.parts r)) p.told
 
 -- the pair part: each stamp word holds the last of its list, a CPU has as many GTODs as raws or one more, and one writer
-pub record PairPart (cpus : ℕ) (chain : ℕ → Chain) (writer : ℕ → ℕ) (words : List ℕ) (views : List View) : Type 0 where
-  pub lasts : (r : ℕ) → r < 2 * cpus → IsWordOf (last_of (chain r)) (slice_index words (cpus + r))
+pub record PairPart (cpus : ℕ) (opens : ℤ) (chain : ℕ → Chain) (writer : ℕ → ℕ) (words : List ℕ) (views : List View) : Type 0 where
+  pub lasts : (r : ℕ) → r < 2 * cpus → IsBitsOf (last_of (chain r)) (slice_index words (cpus + r))
   pub ahead : (c : ℕ) → length (chain (raw_of c)).after ≤ length (chain (gtod_of c)).after
   pub close : (c : ℕ) → length (chain (gtod_of c)).after ≤ length (chain (raw_of c)).after + 1
   pub gtods : (c : ℕ) → IsGtod (last_of (chain (gtod_of c)))
-  pub raws : (c : ℕ) → IsRaw (last_of (chain (raw_of c)))
+  pub raws : (c : ℕ) → IsRaw opens (last_of (chain (raw_of c)))
   pub writers : (j : ℕ) (v : View) → get_elem? views j ≡ some v → (c : ℕ) → has_number v.pairs.owns c ≡ true → writer c ≡ j
   pub each : (j : ℕ) (v : View) → get_elem? views j ≡ some v → FitsPairs chain v.pairs
 
@@ -82,7 +83,7 @@ pub record FitsModes (percpu : Bool) (offset : ℤ) (watcher j : ℕ) (m : ModeV
 -- the mode part: the mode and the offset stand in their words, and one seat has the watchdog's right
 pub record ModePart (start : Start) (percpu : Bool) (offset : ℤ) (watcher : ℕ) (words : List ℕ) (views : List View) : Type 0 where
   pub mode_word : slice_index words (3 * start.cpus) ≡ (if percpu then 1 else 0)
-  pub offset_word : IsWordOf offset (slice_index words (3 * start.cpus + 1))
+  pub offset_word : IsBitsOf offset (slice_index words (3 * start.cpus + 1))
   pub fixed : start.opening.mode ≡ PerCpu → (percpu ≡ true) × (offset ≡ start.opening.offset)
   pub each : (j : ℕ) (v : View) → get_elem? views j ≡ some v → FitsModes percpu offset watcher j v.modes
 
@@ -101,5 +102,5 @@ pub record Kept (start : Start) (s : State Step View) : Type 0 where
   pub lifts_first : percpu ≡ false → All (λ t. IsTrue (is_lift t.why)) history
   pub lifted : percpu ≡ true → AllLifted start history
   pub clocks : HistoryPart start history made holder splitter s.words s.views
-  pub pairs : PairPart start.cpus chain writer s.words s.views
+  pub pairs : PairPart start.cpus (opens_at start) chain writer s.words s.views
   pub modes : ModePart start percpu offset watcher s.words s.views

@@ -11,8 +11,8 @@ use Rattle.clk_words.specs.declared.view.Load.{Load}
 use Rattle.clk_words.specs.declared.view.Name.{Name}
 use Rattle.clk_words.specs.declared.view.Name.TheVariants.{Clock, Gtod, Raw, Offset}
 use Rattle.clk_words.specs.Kinds.{cpu_of}
-use Rattle.clk_words.specs.Histories.{IsGlobalHistory, steps_by, HadValue}
-use Rattle.clk_words.specs.Bounds.{IsGtod, IsRaw, IsClock}
+use Rattle.clk_words.specs.Histories.{opens_at, IsGlobalHistory, steps_by, HadValue}
+use Rattle.clk_words.specs.Bounds.{IsGtod, IsRaw, IsOffset, IsClock}
 use Rattle.clk_words.specs.Parts.{gtod_of, raw_of, part_of}
 use Rattle.clk_words.specs.Rights.{has_number, has_kind}
 use Rattle.clk_words.specs.Views.{own_lists}
@@ -28,10 +28,10 @@ HasLoaded v name x = Contains v.loads (record { of = name; value = x })
 
 -- a value that was loaded from such a word lies in its range, and a clock word held it
 abbrev pub IsSoundAs : Start → List Step → Name → ℤ → Type 0
-IsSoundAs start front (Clock w) x = HadValue start front w x × IsClock x
+IsSoundAs start front (Clock w) x = HadValue start front w x × IsClock (opens_at start) x
 IsSoundAs start front (Gtod cpu) x = IsGtod x
-IsSoundAs start front (Raw cpu) x = IsRaw x
-IsSoundAs start front Offset x = IsRaw x
+IsSoundAs start front (Raw cpu) x = IsRaw (opens_at start) x
+IsSoundAs start front Offset x = IsOffset (opens_at start) x
 
 abbrev pub AreSound : Start → List Step → List Load → Type 0
 AreSound start front loads = All (λ l. IsSoundAs start front l.of l.value) loads
@@ -91,13 +91,13 @@ pub record HasAll (v : View) : Type 0 where
 -- why a step may be made: the values that it names were loaded, the raw reading is in range, and it is no lift
 abbrev pub IsTrusted : View → Why → Type 0
 IsTrusted v (Raise raw tick_raw tick_gtod offset) =
-    IsRaw raw × HasLoaded v (Raw (cpu_of v.kind)) tick_raw × HasLoaded v (Gtod (cpu_of v.kind)) tick_gtod
+    IsRaw (opens_at v.start) raw × HasLoaded v (Raw (cpu_of v.kind)) tick_raw × HasLoaded v (Gtod (cpu_of v.kind)) tick_gtod
     × (offset ≡ v.start.opening.offset)
 IsTrusted v (Couple from value) = HasLoaded v (Clock from) value
 IsTrusted v (Lift value) = ⊥
 
--- each value that a step names is in its range
-abbrev pub IsWithin : Why → Type 0
-IsWithin (Raise raw tick_raw tick_gtod offset) = IsRaw raw × IsRaw tick_raw × IsGtod tick_gtod × IsRaw offset
-IsWithin (Couple from value) = IsClock value
-IsWithin (Lift value) = IsClock value
+-- each value that a step names is in its range, where words open so
+abbrev pub IsWithin : ℤ → Why → Type 0
+IsWithin opens (Raise raw tick_raw tick_gtod offset) = IsRaw opens raw × IsRaw opens tick_raw × IsGtod tick_gtod × IsOffset opens offset
+IsWithin opens (Couple from value) = IsClock opens value
+IsWithin opens (Lift value) = IsClock opens value

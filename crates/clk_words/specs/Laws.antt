@@ -1,14 +1,15 @@
 -- Laws of histories that functions of this crate carry.
-use Rattle.std.specs.Prelude.{◌≡◌, ℕ, ℤ, ◌≤ℤ◌, ◌⊎◌, List, ◌∷◌, ◌++◌}
+use Rattle.std.specs.Prelude.{◌≡◌, ℕ, ℤ, ◌⊎◌, List, ◌∷◌, ◌++◌}
+use Rattle.clk_num.specs.Wrapping.{IsNotBelow}
 use Rattle.clk_words.specs.declared.opening.Start.{Start}
 use Rattle.clk_words.specs.declared.step.Step.{Step}
 use Rattle.clk_words.specs.Histories.{opens_at, value_after, HadValue, Follows, IsGlobalHistory, IsChain, steps_on}
 
--- as a history goes on, no word falls
+-- as a history goes on, no word falls, as the sign of a difference tells
 abbrev pub WordsRise : Type 0
 WordsRise =
     (start : Start) (front back : List Step) (w : ℕ) → IsGlobalHistory start (front ++ back)
-    → value_after (opens_at start) w front ≤ℤ value_after (opens_at start) w (front ++ back)
+    → IsNotBelow (value_after (opens_at start) w (front ++ back)) (value_after (opens_at start) w front)
 
 -- this step made the word w hold x
 pub record WasPut (history : List Step) (w : ℕ) (x : ℤ) : Type 0 where

@@ -3,6 +3,7 @@ pub mod Targets
 pub mod Fronts
 pub mod Histories
 pub mod Bounds
+pub mod Heights
 pub mod Parts
 pub mod Rights
 pub mod Views

@@ -1,9 +1,9 @@
 ghost use Rattle.std.specs.Prelude.{◌≡◌, ◌<◌};
 ghost use Rattle.clk_words.specs.Histories.{opens_at, value_after};
 
+use crate::heights::value_at;
 use crate::step::Step;
 use crate::view::View;
-use clk_num::value_of;
 use std::alloc::Global;
 use std::marker::Model;
 use std::snapshot::Snapshot;
@@ -13,6 +13,7 @@ use std::snapshot::Snapshot;
 /// A contract sees what they began with and their whole history.
 pub struct Closed {
     pub(crate) cpus: u32,
+    pub(crate) opens: i64,
     pub(crate) words: atomic_table::Closed<Step, Global>,
     pub(crate) last: Snapshot<atomic_table::Seat<Step, View>>,
 }
@@ -24,11 +25,12 @@ impl Model for Closed {
 
     ghost use Rattle.std.specs.Slots.{slots_items, slots_len, IsFull};
     ghost use Rattle.std.specs.Prelude.{◌≡◌};
+    ghost use Rattle.clk_words.specs.Histories.{opens_at};
     ghost use Rattle.clk_words.specs.Seated.{AreEnded};
 
     ghost view = { λ c. record { start = c.last.value.me.0.start; history = c.last.value.me.0.seen } };
 
-    ghost invariant = { λ c. let last = c.last.value.me.0 in (c.cpus ≡ last.start.cpus) × IsFull c.words.words
+    ghost invariant = { λ c. let last = c.last.value.me.0 in (c.cpus ≡ last.start.cpus) × (c.opens ≡ opens_at last.start) × IsFull c.words.words
         × (slots_len c.words.slots ≡ 0) × AreEnded last.start last.seen (slots_items c.words.words) };
 }
 
@@ -38,7 +40,7 @@ impl Closed {
         requires { w < self.now.start.cpus }
         ensures { result ≡ value_after (opens_at self.now.start) w self.now.history }
     {
-        value_of(self.words.word(w as usize))
+        value_at(self.opens, self.words.word(w as usize))
     }
 }
 
@@ -46,6 +48,7 @@ impl Drop for Closed {
     fn drop(self) {
         let Closed {
             cpus: _,
+            opens: _,
             words,
             last: _,
         } = self;

@@ -1,6 +1,7 @@
 ghost use Rattle.clk_words.specs.Laws.{WordsRise, HeldWasPut, StepsAreChains, EachFollows};
 
-/// As a history goes on, no clock word falls. So a word that is loaded again holds at least what it held before.
+/// As a history goes on, no clock word falls, by the sign of the difference. So a word that is loaded again does not hold
+/// a value below what it held before.
 pub fn words_rise()
     ensures { WordsRise }
 {}

@@ -1,15 +1,17 @@
 //! The loads, each of one word.
 ghost use Rattle.std.specs.Prelude.{◌≡◌, ◌<◌};
 ghost use Rattle.clk_words.specs.Kinds.{cpu_of};
-ghost use Rattle.clk_words.specs.Bounds.{IsRaw};
+ghost use Rattle.clk_words.specs.Histories.{opens_at};
+ghost use Rattle.clk_words.specs.Bounds.{IsOffset};
 ghost use Rattle.clk_words.specs.Knowing.{HasFoundPerCpu, IsReading};
 ghost use Rattle.clk_words.specs.Held.{place_of};
 ghost use Rattle.clk_words.specs.Told.{Loads, FindsGtod, FindsRaw};
 
+use crate::heights::value_at;
 use crate::rule::{ClockLoad, GtodLoad, RawLoad};
 use crate::seat::Seat;
 use crate::words::Words;
-use clk_num::value_of;
+use clk_num::value_of_bits;
 
 impl Words {
     /// The value of the clock word of CPU `w`, in ns. One load, which takes no memory and does not wait.
@@ -20,7 +22,8 @@ impl Words {
         ensures loads { Loads seat.old.view w result seat.new.view }
     {
         let word = w as usize;
-        value_of(self.table.shared.load::<ClockLoad>(&mut seat.at, word))
+        let found = self.table.shared.load::<ClockLoad>(&mut seat.at, word);
+        value_at(self.opens, found)
     }
 
     /// The GTOD of the last stamp of the seat's CPU, in ns. One load, which takes no memory and does not wait.
@@ -32,7 +35,7 @@ impl Words {
         ensures finds { FindsGtod seat.old.view (cpu_of seat.old.view.kind) result seat.new.view }
     {
         let word = self.gtod_word(seat.cpu());
-        value_of(self.table.shared.load::<GtodLoad>(&mut seat.at, word))
+        value_of_bits(self.table.shared.load::<GtodLoad>(&mut seat.at, word))
     }
 
     /// The raw value of the last stamp of the seat's CPU, in ns. One load, which takes no memory and does not wait.
@@ -44,17 +47,17 @@ impl Words {
         ensures finds { FindsRaw seat.old.view (cpu_of seat.old.view.kind) result seat.new.view }
     {
         let word = self.raw_word(seat.cpu());
-        value_of(self.table.shared.load::<RawLoad>(&mut seat.at, word))
+        value_of_bits(self.table.shared.load::<RawLoad>(&mut seat.at, word))
     }
 
-    /// The offset between GTOD and the per-CPU clocks, within 2^59 ns of 0, which does not change. It makes no step.
+    /// The offset between GTOD and the per-CPU clocks, in ns, which does not change. It makes no step.
     pub fn load_offset(&self, seat: &mut Seat) -> i64
         requires own { place_of seat.old ≡ self.now }
         requires found { HasFoundPerCpu seat.old.view }
         requires reading { IsReading seat.old.view.kind }
         ensures seat { seat.new ≡ seat.old }
         ensures value { result ≡ seat.old.view.start.opening.offset }
-        ensures range { IsRaw result }
+        ensures range { IsOffset (opens_at self.now.start) result }
     {
         let _ = seat;
         self.offset

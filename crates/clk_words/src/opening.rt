@@ -7,17 +7,17 @@ pub enum Mode {
     PerCpu,
 }
 
-/// What the words begin with, in ns. Each clock word begins at `tick_gtod + offset`. The names are those of Linux's
-/// `struct sched_clock_data`; `offset` is its `__gtod_offset`.
+/// What the words begin with, in ns. Each clock word begins at `tick_gtod + offset`, which wraps. The names are those of
+/// Linux's `struct sched_clock_data`; `offset` is its `__gtod_offset`.
 #[derive(Clone, Copy, PartialEq, Eq, Debug)]
 pub struct Opening {
     /// Whether the clock begins stable.
     pub mode: Mode,
-    /// What is added to the monotonic time, within 2^59 of 0.
+    /// What is added to the monotonic time.
     pub offset: i64,
-    /// The monotonic time at the last boot stamp, 0 to 2^41.
+    /// The monotonic time at the last boot stamp, 0 to 2^42.
     pub tick_gtod: i64,
-    /// The raw clock at the last boot stamp, within 2^59 of 0.
+    /// The raw clock at the last boot stamp, within 2^59 of what the words begin with, by the sign of the difference.
     pub tick_raw: i64,
 }
 

@@ -1,24 +1,24 @@
 //! The exchange by which a clock word is raised.
 ghost use Rattle.std.specs.Prelude.{◌≡◌, ◌<◌};
-ghost use Rattle.clk_num.specs.Clamp.{raise};
+ghost use Rattle.clk_num.specs.Wrapping.{raise};
 ghost use Rattle.clk_words.specs.Targets.{target};
 ghost use Rattle.clk_words.specs.Knowing.{HasFoundPerCpu, HasLoaded, IsTrusted};
 ghost use Rattle.clk_words.specs.Told.{Makes};
 ghost use Rattle.clk_words.specs.Held.{place_of};
 ghost use Rattle.clk_words.specs.Calls.{OnDone, OnLost, Loses, step_of};
 
+use crate::heights::{value_at, word_at};
 use crate::rule::Exchange;
 use crate::seat::Seat;
 use crate::step::{Put, Step, Why};
 use crate::view::Name;
 use crate::words::Words;
-use clk_num::{value_of, word_of};
 
 impl Words {
-    /// Puts `new`, the greater of `old` and the target of `why`, into the clock word of CPU `w`, if that holds `old` still.
-    /// The seat has loaded `old` from that word, and the values that `why` names. `call` is the caller's own number, which
-    /// the step shows. `Lost` comes exactly where the word held `found`, another value than `old`; then `found` is greater
-    /// and nothing changed. One exchange, which takes no memory and does not wait.
+    /// Puts `new`, which is `old` raised to the target of `why`, into the clock word of CPU `w`, if that holds `old` still.
+    /// The seat has loaded `old` from that word, and the values that `why` names, a `Raise` or a `Couple`. `call` is the
+    /// caller's own number, which the step shows. `Lost` comes exactly where the word held `found`, another value than
+    /// `old`; then `found` is above `old` and nothing changed. One exchange, which takes no memory and does not wait.
     pub fn try_put(&self, seat: &mut Seat, call: u32, w: u32, old: i64, new: i64, why: Why) -> Put
         requires own { place_of seat.old ≡ self.now }
         requires found { HasFoundPerCpu seat.old.view }
@@ -39,22 +39,20 @@ impl Words {
             old,
             new,
         };
-        let wanted = word_of(old);
-        let found = self
-            .table
-            .shared
-            .compare_exchange_with::<Exchange>(
-                &mut seat.at,
-                w as usize,
-                wanted,
-                word_of(new),
-                &step,
-            );
+        let opens = self.opens;
+        let wanted = word_at(opens, old);
+        let found = self.table.shared.compare_exchange_with::<Exchange>(
+            &mut seat.at,
+            w as usize,
+            wanted,
+            word_at(opens, new),
+            &step,
+        );
         if found == wanted {
             Put::Done(step)
         } else {
             Put::Lost {
-                found: value_of(found),
+                found: value_at(opens, found),
             }
         }
     }

@@ -35,6 +35,36 @@ impl Play<Step, View> for Exchange {
     ghost then = { Exchanged };
 }
 
+// What a raise is asked for. Its caller picks it, since a step is told numbers alone.
+pub(crate) trait Asked {
+    ghost use Rattle.std.specs.Prelude.{ℕ};
+    ghost use Rattle.clk_words.specs.declared.step.Why.{Why};
+
+    ghost call: { ℕ };
+
+    ghost why: { Why };
+}
+
+impl Asked for Brand {
+    ghost use Rattle.std.specs.Prelude.{pos};
+    ghost use Rattle.clk_words.specs.declared.step.Why.TheVariants.{Lift};
+
+    ghost call = { 0 };
+
+    ghost why = { Lift (pos 0) };
+}
+
+// A raise of a clock word.
+pub(crate) struct Greatest<A> {
+    asked: PhantomData<A>,
+}
+
+impl<A: Asked> Play<Step, View> for Greatest<A> {
+    ghost use Rattle.clk_words.specs.Told.{Raised};
+
+    ghost then = { Raised A.call A.why };
+}
+
 // A load of the GTOD of the seat's CPU.
 pub(crate) struct GtodLoad;
 

@@ -1,6 +1,7 @@
 //! An owner's stamp of its CPU: the GTOD first, then the raw value.
 ghost use Rattle.std.specs.Prelude.{◌≡◌, ◌+◌, ◌*◌, ◌<◌};
 ghost use Rattle.clk_words.specs.Kinds.{cpu_of};
+ghost use Rattle.clk_words.specs.Histories.{opens_at};
 ghost use Rattle.clk_words.specs.Bounds.{IsGtod, IsRaw};
 ghost use Rattle.clk_words.specs.Parts.{gtod_of, raw_of};
 ghost use Rattle.clk_words.specs.Knowing.{HasFoundPerCpu, IsOwner, StampsAreWhole, StampsAreHalf};
@@ -10,10 +11,10 @@ ghost use Rattle.clk_words.specs.Told.{stamped};
 use crate::rule::{GtodStore, RawStore};
 use crate::seat::Seat;
 use crate::words::Words;
-use clk_num::word_of;
+use clk_num::bits_of;
 
 impl Words {
-    /// Stores the GTOD of a new stamp, 0 to 2^41 ns. As many raws as GTODs follow stamp 0 by the seat's view. One store,
+    /// Stores the GTOD of a new stamp, 0 to 2^42 ns. As many raws as GTODs follow stamp 0 by the seat's view. One store,
     /// which takes no memory and does not wait.
     pub fn stamp_gtod(&self, seat: &mut Seat, value: i64)
         requires own { place_of seat.old ≡ self.now }
@@ -26,26 +27,26 @@ impl Words {
         ensures turn { StampsAreHalf seat.new.view }
     {
         let word = self.gtod_word(seat.cpu());
-        let new = word_of(value);
+        let new = bits_of(value);
         self.table
             .shared
             .store::<GtodStore>(&mut seat.at, word, new);
     }
 
-    /// Stores the raw value of a new stamp, within 2^59 ns of 0. One GTOD more than raws follows stamp 0 by the seat's
-    /// view. One store, which takes no memory and does not wait.
+    /// Stores the raw value of a new stamp, within 2^59 ns of the words' opening by the sign of the difference. One GTOD
+    /// more than raws follows stamp 0 by the seat's view. One store, which takes no memory and does not wait.
     pub fn stamp_raw(&self, seat: &mut Seat, value: i64)
         requires own { place_of seat.old ≡ self.now }
         requires found { HasFoundPerCpu seat.old.view }
         requires owner { IsOwner seat.old.view }
-        requires bound { IsRaw value }
+        requires bound { IsRaw (opens_at self.now.start) value }
         requires turn { StampsAreHalf seat.old.view }
         ensures own { place_of seat.new ≡ self.now }
         ensures stamped { seat.new.view ≡ stamped (raw_of (cpu_of seat.old.view.kind)) value seat.old.view }
         ensures turn { StampsAreWhole seat.new.view }
     {
         let word = self.raw_word(seat.cpu());
-        let new = word_of(value);
+        let new = bits_of(value);
         self.table.shared.store::<RawStore>(&mut seat.at, word, new);
     }
 

@@ -1,8 +1,8 @@
-/// Why a step wants its word where it wants it. All values are in ns.
+/// Why a step wants its word where it wants it. All values are in ns and wrap at 64 bits.
 #[derive(Clone, Copy, PartialEq, Eq, Debug)]
 pub enum Why {
     /// A local reading: the time since the stamp, at most one tick, on top of the stamp's time. `raw` is the raw clock
-    /// now, within 2^59 of 0, the others are the stamp and the offset that were loaded.
+    /// now, within 2^59 of the words' opening, the others are the stamp and the offset that were loaded.
     Raise {
         raw: i64,
         tick_raw: i64,
@@ -33,7 +33,7 @@ pub struct Step {
     pub why: Why,
     /// What the word held, in ns.
     pub old: i64,
-    /// The greater of `old` and the target, in ns.
+    /// The target if that is above `old`, by the sign of the difference, and else `old`, in ns.
     pub new: i64,
 }
 
@@ -42,6 +42,6 @@ pub struct Step {
 pub enum Put {
     /// The word held `old`, and the step stands in the history.
     Done(Step),
-    /// The word held `found`, which is greater than `old`, and nothing changed.
+    /// The word held `found`, which is above `old`, and nothing changed.
     Lost { found: i64 },
 }

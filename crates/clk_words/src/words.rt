@@ -14,7 +14,7 @@ use crate::seat::Seat;
 use crate::step::Step;
 use crate::view::View;
 use atomic_table::Table;
-use clk_num::word_of;
+use clk_num::{bits_of, word_of};
 use std::alloc::{AllocError, Global};
 use std::marker::Model;
 use std::snapshot::Snapshot;
@@ -25,6 +25,8 @@ use std::snapshot::Snapshot;
 #[derive(Drop)]
 pub struct Words {
     pub(crate) cpus: u32,
+    pub(crate) tick: i64,
+    pub(crate) opens: i64,
     pub(crate) offset: i64,
     pub(crate) table: Table<Step, View, Start, OneHistory, Global>,
 }
@@ -38,13 +40,13 @@ impl Model for Words {
 
     ghost view = { λ w. record { table = w.table.shared.table_id; start = w.table.shared.key } };
 
-    ghost invariant = { λ w. AreWords w.cpus w.offset w.table.shared.table_id w.table.shared.key };
+    ghost invariant = { λ w. AreWords w.cpus w.tick w.opens w.offset w.table.shared.table_id w.table.shared.key };
 }
 
 impl Words {
     /// The words of `cpus` CPUs, at least one, for ticks of `tick` ns, 1 to 2^30. Each clock word begins at
-    /// `tick_gtod + offset` of `start`. The first seat has number 0, shows the kind `Reader(0)`, and holds the right to
-    /// split and to give every kind. The error is want of memory.
+    /// `tick_gtod + offset` of `start`, which wraps. The first seat has number 0, shows the kind `Reader(0)`, and holds
+    /// the right to split and to give every kind. The error is want of memory.
     pub fn new(
         alloc: Global,
         cpus: u32,
@@ -67,6 +69,8 @@ impl Words {
         let (table, at) = Table::of_words(alloc, words.as_slice(), &about)?;
         let words = Words {
             cpus,
+            tick,
+            opens: start.tick_gtod.wrapping_add(start.offset),
             offset: start.offset,
             table,
         };
@@ -89,27 +93,33 @@ impl Words {
     {
         let Words {
             cpus,
+            tick: _,
+            opens,
             offset: _,
             table,
         } = self;
         let last = Snapshot::of(&seat.at);
         let words = table.close_with(seat.at);
-        Closed { cpus, words, last }
+        Closed {
+            cpus,
+            opens,
+            words,
+            last,
+        }
     }
 }
 
-// The clock of each CPU, then its GTOD and its raw value, then the mode and the offset.
+// The clock of each CPU, at height 0, then its GTOD and its raw value, then the mode and the offset.
 fn first_words(alloc: Global, start: &Start) -> Result<Vec<u64>, AllocError>
-    requires { IsOpening start.now.opening }
     ensures { IfOk result (λ words. AreFirst start.now words.items) }
 {
     let opening = start.opening;
-    let clock = word_of(opening.tick_gtod + opening.offset);
-    let gtod = word_of(opening.tick_gtod);
-    let raw = word_of(opening.tick_raw);
+    let clock = word_of(0);
+    let gtod = bits_of(opening.tick_gtod);
+    let raw = bits_of(opening.tick_raw);
     let mut words = cpu_words(alloc, start.cpus, clock, gtod, raw)?;
     words.push(mode_word(opening.mode))?;
-    words.push(word_of(opening.offset))?;
+    words.push(bits_of(opening.offset))?;
     Ok(words)
 }
 

@@ -1,15 +1,17 @@
 //! One CPU at 1 GHz, whose tickets are 10 ns apart, and the context of a thread on it.
 ghost use Rattle.std.specs.Prelude.{◌≡◌, ◌+◌, ◌^◌, ◌<◌, ◌≤◌, [], ◌∷◌, ◌++◌, IfOk};
+ghost use Rattle.clk_num.specs.Range.{IsFrom0To};
 ghost use Rattle.clk_ticket.specs.Time.{share_of, fresh, without};
 ghost use Rattle.clk_machine.specs.Plan.{plan_of, cpu_count};
-ghost use Rattle.clk_machine.specs.Records.{record_zero};
+ghost use Rattle.clk_machine.specs.Records.{record_zero, above_base};
 ghost use Rattle.clk_machine.specs.Short.{IsWellFormed};
 ghost use Rattle.clk_latch.specs.Calls.{IsRecordZero};
 ghost use Rattle.clk_words.specs.Held.{place_of};
+ghost use Rattle.clk_words.specs.Histories.{opens_at};
 ghost use Rattle.clk_words.specs.Kinds.{cpu_of};
 ghost use Rattle.clk_words.specs.Knowing.{HasFoundPerCpu, IsReading, MaySplit, numbers_of};
 ghost use Rattle.clk_words.specs.Views.{first_view, giver_view, given_view};
-ghost use Rattle.clk_local.specs.Context.{IsUsable};
+ghost use Rattle.clk_local.specs.Context.{BeginsAtBase, IsUsable};
 
 use crate::Ctx;
 use clk_latch::{Epochs, Latch, LatchSeat};
@@ -72,6 +74,7 @@ pub fn parts(alloc: Global) -> Result<Parts, AllocError>
 }
 
 // Record 0, whose ticket the test draws.
+#[tactic(auto, unfolding(clk_machine::specs::Records::base_of))]
 pub fn zero_of(machine: &Machine) -> Published
     requires { 0 < cpu_count machine.now }
     ensures zero { result ≡ record_zero machine.now }
@@ -145,7 +148,9 @@ pub fn stand(alloc: Global, machine: Machine, total: u64) -> Result<(Shared, Own
     ensures words { IfOk result (λ made. made.0.words.start ≡ record { cpus = 1; tick = machine.tick; opening = OPENING }) }
     ensures seat { IfOk result (λ made. made.1.seat ≡ record { table = made.0.words.table; view = first_view made.0.words.start }) }
     ensures made { IfOk result (λ made. made.1.seat.view.made ≡ 1) }
+    ensures opening { IfOk result (λ made. IsFrom0To (2 ^ 57) (above_base machine (opens_at made.0.words.start))) }
     ensures latch { IfOk result (λ made. made.1.latch_seat.latch ≡ made.0.latch) }
+    ensures base { IfOk result (λ made. BeginsAtBase machine made.1.latch_seat.epoch) }
     ensures tickets { IfOk result (λ made. (made.1.time.table ≡ made.0.tickets.table) × (made.1.time.left + 3 ≡ total)) }
     ensures share { IfOk result (λ made. share_of made.1.time ≡ made.0.tickets.total) }
 {
@@ -174,12 +179,14 @@ pub fn hire(shared: &Shared, first: &mut Own, kind: SeatKind, left: u64) -> Own
     requires cpu { cpu_of kind < shared.now.words.start.cpus }
     requires room { first.old.seat.view.made + 1 < 2 ^ 32 }
     requires latch { first.old.latch_seat.latch ≡ shared.now.latch }
+    requires base { BeginsAtBase shared.now.machine first.old.latch_seat.epoch }
     requires table { first.old.time.table ≡ shared.now.tickets.table }
     requires left { left ≤ first.old.time.left }
     ensures old { first.new.seat ≡ record { table = shared.now.words.table; view = giver_view kind first.old.seat.view } }
     ensures made { first.new.seat.view.made ≡ first.old.seat.view.made + 1 }
     ensures new { result.seat ≡ record { table = shared.now.words.table; view = given_view kind first.old.seat.view } }
     ensures latch { (first.new.latch_seat.latch ≡ shared.now.latch) × (result.latch_seat.latch ≡ shared.now.latch) }
+    ensures base { BeginsAtBase shared.now.machine first.new.latch_seat.epoch × BeginsAtBase shared.now.machine result.latch_seat.epoch }
     ensures time { first.new.time ≡ without left first.old.time }
     ensures budget { result.time ≡ fresh shared.now.tickets.table left first.old.time.seen }
     ensures share { share_of first.new.time + share_of result.time ≡ share_of first.old.time }
@@ -200,9 +207,11 @@ pub fn context<'a>(shared: &'a Shared, own: Own) -> Ctx<'a, Latch>
     requires cpus { shared.now.words.start.cpus ≡ 1 }
     requires machine { cpu_count shared.now.machine ≡ 1 }
     requires tick { shared.now.words.start.tick ≡ shared.now.machine.tick }
+    requires opening { IsFrom0To (2 ^ 57) (above_base shared.now.machine (opens_at shared.now.words.start)) }
     requires latch { own.latch_seat.latch ≡ shared.now.latch }
+    requires base { BeginsAtBase shared.now.machine own.latch_seat.epoch }
     requires table { own.time.table ≡ shared.now.tickets.table }
-    ensures usable { IsUsable ⟦<Latch as Epochs>⟧.fits result }
+    ensures usable { IsUsable ⟦<Latch as Epochs>⟧.fits ⟦<Latch as Epochs>⟧.epoch result }
     ensures words { result.words.now ≡ shared.now.words }
     ensures latch { result.epochs.now ≡ shared.now.latch }
     ensures tickets { result.tickets.now ≡ shared.now.tickets }
@@ -229,7 +238,7 @@ pub fn context<'a>(shared: &'a Shared, own: Own) -> Ctx<'a, Latch>
 
 // The seats of a context that is done with.
 pub fn seats_of(ctx: Ctx<'_, Latch>) -> Own
-    requires { IsUsable ⟦<Latch as Epochs>⟧.fits ctx }
+    requires { IsUsable ⟦<Latch as Epochs>⟧.fits ⟦<Latch as Epochs>⟧.epoch ctx }
     ensures own { place_of result.seat ≡ ctx.entry.words.now }
     ensures numbers { numbers_of result.seat.view ≡ numbers_of ctx.entry.seat.view }
     ensures made { result.seat.view.made ≡ ctx.entry.seat.view.made }

@@ -1,12 +1,15 @@
 //! An owner and a reader of one CPU, on threads of their own.
-ghost use Rattle.std.specs.Prelude.{◌≡◌, ◌≤◌, IfOk};
+ghost use Rattle.std.specs.Prelude.{◌≡◌, ◌^◌, ◌≤◌, IfOk};
+ghost use Rattle.clk_num.specs.Range.{IsFrom0To};
 ghost use Rattle.clk_ticket.specs.Time.{share_of};
 ghost use Rattle.clk_machine.specs.Plan.{cpu_count};
+ghost use Rattle.clk_machine.specs.Records.{above_base};
 ghost use Rattle.clk_words.specs.Calls.{KeepsSeat};
 ghost use Rattle.clk_words.specs.Held.{place_of};
+ghost use Rattle.clk_words.specs.Histories.{opens_at};
 ghost use Rattle.clk_words.specs.Kinds.{cpu_of};
 ghost use Rattle.clk_words.specs.Knowing.{HasFoundPerCpu, IsReading, numbers_of};
-ghost use Rattle.clk_local.specs.Context.{IsUsable, MayStamp, Spends};
+ghost use Rattle.clk_local.specs.Context.{BeginsAtBase, IsUsable, MayStamp, Spends};
 
 use crate::tests::fixtures::{Own, Shared, context, end_three, hire, meet, parts, seats_of, stand};
 use crate::{Ctx, Reading, TickEvent, idle, local_raised};
@@ -45,10 +48,10 @@ fn note(log: &mut Vec<Step>, step: Step) {
 
 // An idle event, which makes two steps.
 fn wake(ctx: &mut Ctx<'_, Latch>, call: u32, log: &mut Vec<Step>)
-    requires usable { IsUsable ⟦<Latch as Epochs>⟧.fits ctx.old }
+    requires usable { IsUsable ⟦<Latch as Epochs>⟧.fits ⟦<Latch as Epochs>⟧.epoch ctx.old }
     requires stamp { MayStamp ctx.old.seat.view }
     requires tickets { 4 ≤ ctx.old.time.left }
-    ensures usable { IsUsable ⟦<Latch as Epochs>⟧.fits ctx.new }
+    ensures usable { IsUsable ⟦<Latch as Epochs>⟧.fits ⟦<Latch as Epochs>⟧.epoch ctx.new }
     ensures stamp { MayStamp ctx.new.seat.view }
     ensures words { ctx.new.words.now ≡ ctx.old.words.now }
     ensures latch { ctx.new.epochs.now ≡ ctx.old.epochs.now }
@@ -68,9 +71,9 @@ fn wake(ctx: &mut Ctx<'_, Latch>, call: u32, log: &mut Vec<Step>)
 
 // A reading, which makes one.
 fn look(ctx: &mut Ctx<'_, Latch>, call: u32, log: &mut Vec<Step>)
-    requires usable { IsUsable ⟦<Latch as Epochs>⟧.fits ctx.old }
+    requires usable { IsUsable ⟦<Latch as Epochs>⟧.fits ⟦<Latch as Epochs>⟧.epoch ctx.old }
     requires tickets { 1 ≤ ctx.old.time.left }
-    ensures usable { IsUsable ⟦<Latch as Epochs>⟧.fits ctx.new }
+    ensures usable { IsUsable ⟦<Latch as Epochs>⟧.fits ⟦<Latch as Epochs>⟧.epoch ctx.new }
     ensures words { ctx.new.words.now ≡ ctx.old.words.now }
     ensures latch { ctx.new.epochs.now ≡ ctx.old.epochs.now }
     ensures tickets { ctx.new.tickets.now ≡ ctx.old.tickets.now }
@@ -89,7 +92,9 @@ fn run_owner(shared: &Shared, runner: Runner) -> Runner
     requires cpu { cpu_of runner.own.seat.view.kind ≡ 0 }
     requires cpus { (shared.now.words.start.cpus ≡ 1) × (cpu_count shared.now.machine ≡ 1) }
     requires tick { shared.now.words.start.tick ≡ shared.now.machine.tick }
+    requires opening { IsFrom0To (2 ^ 57) (above_base shared.now.machine (opens_at shared.now.words.start)) }
     requires latch { runner.own.latch_seat.latch ≡ shared.now.latch }
+    requires base { BeginsAtBase shared.now.machine runner.own.latch_seat.epoch }
     requires table { runner.own.time.table ≡ shared.now.tickets.table }
     requires stamp { MayStamp runner.own.seat.view }
     requires left { runner.own.time.left ≡ OWNERS }
@@ -116,7 +121,9 @@ fn run_reader(shared: &Shared, runner: Runner) -> Runner
     requires cpu { cpu_of runner.own.seat.view.kind ≡ 0 }
     requires cpus { (shared.now.words.start.cpus ≡ 1) × (cpu_count shared.now.machine ≡ 1) }
     requires tick { shared.now.words.start.tick ≡ shared.now.machine.tick }
+    requires opening { IsFrom0To (2 ^ 57) (above_base shared.now.machine (opens_at shared.now.words.start)) }
     requires latch { runner.own.latch_seat.latch ≡ shared.now.latch }
+    requires base { BeginsAtBase shared.now.machine runner.own.latch_seat.epoch }
     requires table { runner.own.time.table ≡ shared.now.tickets.table }
     requires left { runner.own.time.left ≡ READERS }
     ensures own { place_of result.own.seat ≡ shared.now.words }
@@ -142,7 +149,9 @@ fn two<R: Threads + Sync>(rt: &R, shared: &Shared, a: Runner, b: Runner) -> (Run
     requires cpu { (cpu_of a.own.seat.view.kind ≡ 0) × (cpu_of b.own.seat.view.kind ≡ 0) }
     requires cpus { (shared.now.words.start.cpus ≡ 1) × (cpu_count shared.now.machine ≡ 1) }
     requires tick { shared.now.words.start.tick ≡ shared.now.machine.tick }
+    requires opening { IsFrom0To (2 ^ 57) (above_base shared.now.machine (opens_at shared.now.words.start)) }
     requires latch { (a.own.latch_seat.latch ≡ shared.now.latch) × (b.own.latch_seat.latch ≡ shared.now.latch) }
+    requires base { BeginsAtBase shared.now.machine a.own.latch_seat.epoch × BeginsAtBase shared.now.machine b.own.latch_seat.epoch }
     requires table { (a.own.time.table ≡ shared.now.tickets.table) × (b.own.time.table ≡ shared.now.tickets.table) }
     requires stamp { MayStamp a.own.seat.view }
     requires left { (a.own.time.left ≡ OWNERS) × (b.own.time.left ≡ READERS) }

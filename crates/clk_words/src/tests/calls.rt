@@ -1,18 +1,43 @@
 //! Callers of the words, as a local and a remote reading make them.
-ghost use Rattle.std.specs.Prelude.{◌≡◌, ◌<◌, ◌+ℤ◌, [], ◌∷◌};
-ghost use Rattle.clk_num.specs.Clamp.{raise, local_target, elapsed};
+ghost use Rattle.std.specs.Prelude.{◌≡◌, ◌<◌, [], ◌∷◌};
+ghost use Rattle.clk_num.specs.Range.{IsNear};
 ghost use Rattle.clk_words.specs.Kinds.{cpu_of};
-ghost use Rattle.clk_words.specs.Targets.{target};
-ghost use Rattle.clk_words.specs.Bounds.{IsClock, IsGtod, IsRaw};
-ghost use Rattle.clk_words.specs.Knowing.{HasFoundPerCpu, HasLoaded, IsOwner, IsReading, IsTrusted, IsWithin, StampsAreWhole, numbers_of};
+ghost use Rattle.clk_words.specs.Histories.{opens_at};
+ghost use Rattle.clk_words.specs.Bounds.{opens_of, IsGtod, IsRaw, IsOpening};
+ghost use Rattle.clk_words.specs.Knowing.{HasFoundPerCpu, HasLoaded, IsOwner, IsReading, IsTrusted, StampsAreWhole, numbers_of};
 ghost use Rattle.clk_words.specs.Held.{place_of};
 ghost use Rattle.clk_words.specs.Calls.{KeepsSeat};
 
+use crate::raises::target;
 use crate::view::Name;
-use crate::{Closed, Put, Seat, Step, Why, Words};
-use clk_num::clamp_local;
+use crate::{Closed, Mode, Opening, Put, Seat, Step, Why, Words};
+use clk_num::raise;
 
 pub const TICK: i64 = 1_000_000;
+
+// The words open at the raw reading of the last boot stamp.
+pub fn opening(tick_gtod: i64, offset: i64) -> Opening
+    requires { IsGtod tick_gtod }
+    ensures opening { IsOpening result }
+    ensures mode { result.mode ≡ Mode.PerCpu }
+    ensures raw { result.tick_raw ≡ opens_of result }
+{
+    Opening {
+        mode: Mode::PerCpu,
+        offset,
+        tick_gtod,
+        tick_raw: tick_gtod.wrapping_add(offset),
+    }
+}
+
+// The raw clock so many ns after that.
+pub fn after(start: &Opening, ns: i64) -> i64
+    requires ns { IsNear 59 ns }
+    requires raw { start.now.tick_raw ≡ opens_of start.now }
+    ensures { IsRaw (opens_of start.now) result }
+{
+    start.tick_raw.wrapping_add(ns)
+}
 
 // The raw half of a pair.
 pub fn raw_half(words: &Words, seat: &mut Seat) -> i64
@@ -21,7 +46,7 @@ pub fn raw_half(words: &Words, seat: &mut Seat) -> i64
     requires reading { IsReading seat.old.view.kind }
     ensures own { place_of seat.new ≡ words.now }
     ensures kept { KeepsSeat seat.old.view seat.new.view }
-    ensures loaded { HasLoaded seat.new.view (Name.Raw (cpu_of seat.new.view.kind)) result × IsRaw result }
+    ensures loaded { HasLoaded seat.new.view (Name.Raw (cpu_of seat.new.view.kind)) result }
     ensures turn { IsOwner seat.old.view → StampsAreWhole seat.old.view → StampsAreWhole seat.new.view }
 {
     words.load_raw(seat)
@@ -32,13 +57,11 @@ pub fn other_half(words: &Words, seat: &mut Seat, raw: i64, tick_raw: i64) -> Wh
     requires own { place_of seat.old ≡ words.now }
     requires found { HasFoundPerCpu seat.old.view }
     requires reading { IsReading seat.old.view.kind }
-    requires raw { IsRaw raw }
-    requires offset { IsRaw words.now.start.opening.offset }
-    requires loaded { HasLoaded seat.old.view (Name.Raw (cpu_of seat.old.view.kind)) tick_raw × IsRaw tick_raw }
+    requires raw { IsRaw (opens_at words.now.start) raw }
+    requires loaded { HasLoaded seat.old.view (Name.Raw (cpu_of seat.old.view.kind)) tick_raw }
     ensures own { place_of seat.new ≡ words.now }
     ensures kept { KeepsSeat seat.old.view seat.new.view }
     ensures trusted { IsTrusted seat.new.view result }
-    ensures within { IsWithin result }
     ensures turn { IsOwner seat.old.view → StampsAreWhole seat.old.view → StampsAreWhole seat.new.view }
 {
     let tick_gtod = words.load_gtod(seat);
@@ -56,12 +79,10 @@ pub fn pair(words: &Words, seat: &mut Seat, raw: i64) -> Why
     requires own { place_of seat.old ≡ words.now }
     requires found { HasFoundPerCpu seat.old.view }
     requires reading { IsReading seat.old.view.kind }
-    requires raw { IsRaw raw }
-    requires offset { IsRaw words.now.start.opening.offset }
+    requires raw { IsRaw (opens_at words.now.start) raw }
     ensures own { place_of seat.new ≡ words.now }
     ensures kept { KeepsSeat seat.old.view seat.new.view }
     ensures trusted { IsTrusted seat.new.view result }
-    ensures within { IsWithin result }
     ensures turn { IsOwner seat.old.view → StampsAreWhole seat.old.view → StampsAreWhole seat.new.view }
 {
     let tick_raw = raw_half(words, seat);
@@ -74,7 +95,7 @@ pub fn stamp(words: &Words, seat: &mut Seat, gtod: i64, raw: i64)
     requires found { HasFoundPerCpu seat.old.view }
     requires owner { IsOwner seat.old.view }
     requires gtod { IsGtod gtod }
-    requires raw { IsRaw raw }
+    requires raw { IsRaw (opens_at words.now.start) raw }
     requires turn { StampsAreWhole seat.old.view }
     ensures own { place_of seat.new ≡ words.now }
     ensures kept { KeepsSeat seat.old.view seat.new.view }
@@ -84,6 +105,34 @@ pub fn stamp(words: &Words, seat: &mut Seat, gtod: i64, raw: i64)
     words.stamp_raw(seat, raw);
 }
 
+// A local reading of the seat's CPU: the pair, and then the raise.
+pub fn local(words: &Words, seat: &mut Seat, call: u32, raw: i64) -> Step
+    requires own { place_of seat.old ≡ words.now }
+    requires found { HasFoundPerCpu seat.old.view }
+    requires reading { IsReading seat.old.view.kind }
+    requires raw { IsRaw (opens_at words.now.start) raw }
+    ensures own { place_of seat.new ≡ words.now }
+    ensures kept { KeepsSeat seat.old.view seat.new.view }
+    ensures turn { IsOwner seat.old.view → StampsAreWhole seat.old.view → StampsAreWhole seat.new.view }
+{
+    let why = pair(words, seat, raw);
+    let cpu = seat.cpu();
+    raised(words, seat, call, cpu, why)
+}
+
+// Raises a clock word to what was loaded.
+pub fn raised(words: &Words, seat: &mut Seat, call: u32, w: u32, why: Why) -> Step
+    requires own { place_of seat.old ≡ words.now }
+    requires found { HasFoundPerCpu seat.old.view }
+    requires word { w < words.now.start.cpus }
+    requires trusted { IsTrusted seat.old.view why }
+    ensures own { place_of seat.new ≡ words.now }
+    ensures kept { KeepsSeat seat.old.view seat.new.view }
+    ensures turn { StampsAreWhole seat.old.view → StampsAreWhole seat.new.view }
+{
+    words.raise(seat, call, w, why)
+}
+
 // Loads the clock word of a CPU, after the words that `why` names.
 pub fn clock(words: &Words, seat: &mut Seat, w: u32, why: Why) -> i64
     requires own { place_of seat.old ≡ words.now }
@@ -91,7 +140,7 @@ pub fn clock(words: &Words, seat: &mut Seat, w: u32, why: Why) -> i64
     requires trusted { IsTrusted seat.old.view why }
     ensures own { place_of seat.new ≡ words.now }
     ensures kept { KeepsSeat seat.old.view seat.new.view }
-    ensures loaded { HasLoaded seat.new.view (Name.Clock w) result × IsClock result }
+    ensures loaded { HasLoaded seat.new.view (Name.Clock w) result }
     ensures trusted { IsTrusted seat.new.view why }
     ensures turn { StampsAreWhole seat.old.view → StampsAreWhole seat.new.view }
 {
@@ -99,49 +148,20 @@ pub fn clock(words: &Words, seat: &mut Seat, w: u32, why: Why) -> i64
     words.load_clock(seat, w)
 }
 
-// What a local reading puts.
-fn raised(old: i64, raw: i64, tick_raw: i64, tick_gtod: i64, offset: i64) -> i64
-    requires old { IsClock old }
-    requires raw { IsRaw raw × IsRaw tick_raw }
-    requires base { IsGtod tick_gtod × IsRaw offset }
-    ensures { result ≡ raise old (local_target (tick_gtod +ℤ offset) (elapsed raw tick_raw) TICK) }
-{
-    clamp_local(old, tick_gtod + offset, (raw - tick_raw).max(0), TICK)
-}
-
-// The greater of `old` and the target.
-fn wanted(old: i64, why: Why) -> i64
-    requires old { IsClock old }
-    requires within { IsWithin why }
-    ensures { result ≡ raise old (target TICK why) }
-{
-    match why {
-        Why::Raise {
-            raw,
-            tick_raw,
-            tick_gtod,
-            offset,
-        } => raised(old, raw, tick_raw, tick_gtod, offset),
-        Why::Couple { from: _, value } => old.max(value),
-        Why::Lift { value } => old.max(value),
-    }
-}
-
 // Tries once to put what `why` wants, over a value that was loaded.
-pub fn put(words: &Words, seat: &mut Seat, call: u32, w: u32, old: i64, why: Why) -> Put
+pub fn put(words: &Words, seat: &mut Seat, w: u32, old: i64, why: Why) -> Put
     requires own { place_of seat.old ≡ words.now }
     requires found { HasFoundPerCpu seat.old.view }
     requires word { w < words.now.start.cpus }
     requires tick { words.now.start.tick ≡ TICK }
-    requires old { HasLoaded seat.old.view (Name.Clock w) old × IsClock old }
+    requires old { HasLoaded seat.old.view (Name.Clock w) old }
     requires trusted { IsTrusted seat.old.view why }
-    requires within { IsWithin why }
     ensures own { place_of seat.new ≡ words.now }
     ensures kept { KeepsSeat seat.old.view seat.new.view }
     ensures trusted { IsTrusted seat.new.view why }
-    ensures turn { StampsAreWhole seat.old.view → StampsAreWhole seat.new.view }
 {
-    words.try_put(seat, call, w, old, wanted(old, why), why)
+    let new = raise(old, target(TICK, &why));
+    words.try_put(seat, 0, w, old, new, why)
 }
 
 // Joins the seats that were split off to the first one, and ends.

@@ -1,76 +1,26 @@
 //! Two owners and two readers, on threads of their own.
 ghost use Rattle.std.specs.Prelude.{◌≡◌, ◌+◌, ◌^◌, ◌<◌, [], ◌∷◌, IfOk, IsTrue, OnOk};
 ghost use Rattle.clk_words.specs.Kinds.{cpu_of};
-ghost use Rattle.clk_words.specs.Bounds.{IsClock, IsRaw};
-ghost use Rattle.clk_words.specs.Knowing.{HasFoundPerCpu, HasLoaded, IsOwner, IsReading, IsTrusted, IsWithin, MaySplit, StampsAreWhole, numbers_of};
+ghost use Rattle.clk_words.specs.Histories.{opens_at};
+ghost use Rattle.clk_words.specs.Bounds.{opens_of, IsGtod, IsRaw};
+ghost use Rattle.clk_words.specs.Knowing.{HasFoundPerCpu, HasLoaded, IsOwner, IsReading, MaySplit, StampsAreWhole, numbers_of};
 ghost use Rattle.clk_words.specs.Views.{giver_view, given_view};
 ghost use Rattle.clk_words.specs.Held.{place_of};
 ghost use Rattle.clk_words.specs.Calls.{KeepsSeat};
 
-use crate::tests::calls::{TICK, clock, pair, put, stamp};
+use crate::tests::calls::{TICK, after, clock, local, opening, raised, stamp};
 use crate::view::Name;
-use crate::{Closed, Mode, Opening, Put, Seat, SeatKind, Step, Why, Words};
+use crate::{Closed, Opening, Seat, SeatKind, Step, Why, Words};
 use std::alloc::{AllocError, Global};
 use std::thread::{Threads, join};
 
 const CALLS: u32 = 10_000;
 
-// More losses in a row than the calls of all others.
-const TRIES: u32 = 1_000_000;
-
-const OPENING: Opening = Opening {
-    mode: Mode::PerCpu,
-    offset: 10,
-    tick_gtod: 10,
-    tick_raw: 20,
-};
-
-// Loads the word and tries, until the step is done.
-fn until_done(words: &Words, seat: &mut Seat, call: u32, w: u32, why: Why) -> Option<Step>
+// A remote reading: the lower of two words is raised to the other.
+fn couple(words: &Words, seat: &mut Seat, call: u32, other: u32) -> Step
     requires own { place_of seat.old ≡ words.now }
     requires found { HasFoundPerCpu seat.old.view }
-    requires word { w < words.now.start.cpus }
-    requires tick { words.now.start.tick ≡ TICK }
-    requires trusted { IsTrusted seat.old.view why }
-    requires within { IsWithin why }
-    ensures own { place_of seat.new ≡ words.now }
-    ensures kept { KeepsSeat seat.old.view seat.new.view }
-    ensures turn { StampsAreWhole seat.old.view → StampsAreWhole seat.new.view }
-{
-    for _ in 0..TRIES {
-        let old = clock(words, seat, w, why);
-        if let Put::Done(step) = put(words, seat, call, w, old, why) {
-            return Some(step);
-        }
-    }
-    None
-}
-
-// A local reading.
-fn local(words: &Words, seat: &mut Seat, call: u32, raw: i64) -> Option<Step>
-    requires own { place_of seat.old ≡ words.now }
-    requires found { HasFoundPerCpu seat.old.view }
-    requires reading { IsReading seat.old.view.kind }
-    requires cpu { cpu_of seat.old.view.kind < words.now.start.cpus }
-    requires tick { words.now.start.tick ≡ TICK }
-    requires offset { IsRaw words.now.start.opening.offset }
-    requires raw { IsRaw raw }
-    ensures own { place_of seat.new ≡ words.now }
-    ensures kept { KeepsSeat seat.old.view seat.new.view }
-    ensures turn { IsOwner seat.old.view → StampsAreWhole seat.old.view → StampsAreWhole seat.new.view }
-{
-    let why = pair(words, seat, raw);
-    let cpu = seat.cpu();
-    until_done(words, seat, call, cpu, why)
-}
-
-// The lower of two words is raised to the other.
-fn couple_once(words: &Words, seat: &mut Seat, call: u32, other: u32) -> Put
-    requires own { place_of seat.old ≡ words.now }
-    requires found { HasFoundPerCpu seat.old.view }
-    requires cpu { cpu_of seat.old.view.kind < words.now.start.cpus }
     requires other { other < words.now.start.cpus }
-    requires tick { words.now.start.tick ≡ TICK }
     ensures own { place_of seat.new ≡ words.now }
     ensures kept { KeepsSeat seat.old.view seat.new.view }
     ensures turn { StampsAreWhole seat.old.view → StampsAreWhole seat.new.view }
@@ -78,16 +28,16 @@ fn couple_once(words: &Words, seat: &mut Seat, call: u32, other: u32) -> Put
     let from = seat.cpu();
     let value = first_clock(words, seat, from);
     let theirs = clock(words, seat, other, Why::Couple { from, value });
-    let (w, old, why) = if theirs < value {
-        (other, theirs, Why::Couple { from, value })
+    let (w, why) = if theirs < value {
+        (other, Why::Couple { from, value })
     } else {
         let lower = Why::Couple {
             from: other,
             value: theirs,
         };
-        (from, value, lower)
+        (from, lower)
     };
-    put(words, seat, call, w, old, why)
+    raised(words, seat, call, w, why)
 }
 
 // A load of a clock word that a remote reading may name.
@@ -96,45 +46,41 @@ fn first_clock(words: &Words, seat: &mut Seat, w: u32) -> i64
     requires word { w < words.now.start.cpus }
     ensures own { place_of seat.new ≡ words.now }
     ensures kept { KeepsSeat seat.old.view seat.new.view }
-    ensures loaded { HasLoaded seat.new.view (Name.Clock w) result × IsClock result }
+    ensures loaded { HasLoaded seat.new.view (Name.Clock w) result }
     ensures turn { StampsAreWhole seat.old.view → StampsAreWhole seat.new.view }
 {
     words.load_clock(seat, w)
 }
 
-// A remote reading.
-fn couple(words: &Words, seat: &mut Seat, call: u32, other: u32) -> Option<Step>
-    requires own { place_of seat.old ≡ words.now }
-    requires found { HasFoundPerCpu seat.old.view }
-    requires cpu { cpu_of seat.old.view.kind < words.now.start.cpus }
-    requires other { other < words.now.start.cpus }
-    requires tick { words.now.start.tick ≡ TICK }
-    ensures own { place_of seat.new ≡ words.now }
-    ensures kept { KeepsSeat seat.old.view seat.new.view }
-    ensures turn { StampsAreWhole seat.old.view → StampsAreWhole seat.new.view }
-{
-    for _ in 0..TRIES {
-        if let Put::Done(step) = couple_once(words, seat, call, other) {
-            return Some(step);
-        }
-    }
-    None
-}
-
-// A thread's seat, whether it stamps, the other CPU, and the steps that it has done.
+// A thread's seat, whether it stamps, the other CPU, what the words opened with, and the steps that it has made.
 #[derive(Drop)]
 struct Runner {
     seat: Seat,
     stamps: bool,
     other: u32,
+    start: Opening,
     log: Vec<Step>,
 }
 
-// There is room for each step.
-fn note(log: &mut Vec<Step>, step: Option<Step>) {
-    if let Some(step) = step {
-        let _ = log.push(step);
+// A stamp if the seat is an owner's.
+fn stamp_if(words: &Words, seat: &mut Seat, stamps: bool, gtod: i64, raw: i64)
+    requires own { place_of seat.old ≡ words.now }
+    requires found { HasFoundPerCpu seat.old.view }
+    requires gtod { IsGtod gtod }
+    requires raw { IsRaw (opens_at words.now.start) raw }
+    requires turn { IsTrue stamps → IsOwner seat.old.view × StampsAreWhole seat.old.view }
+    ensures own { place_of seat.new ≡ words.now }
+    ensures kept { KeepsSeat seat.old.view seat.new.view }
+    ensures turn { IsTrue stamps → StampsAreWhole seat.new.view }
+{
+    if stamps {
+        stamp(words, seat, gtod, raw);
     }
+}
+
+// There is room for each step.
+fn note(log: &mut Vec<Step>, step: Step) {
+    let _ = log.push(step);
 }
 
 // Each call is a stamp if the seat is an owner's, a local reading, and a remote one.
@@ -142,23 +88,22 @@ fn run(words: &Words, mut runner: Runner) -> Runner
     requires own { place_of runner.seat ≡ words.now }
     requires found { HasFoundPerCpu runner.seat.view }
     requires reading { IsReading runner.seat.view.kind }
-    requires cpu { cpu_of runner.seat.view.kind < words.now.start.cpus }
     requires other { runner.other < words.now.start.cpus }
-    requires start { (words.now.start.tick ≡ TICK) × IsRaw words.now.start.opening.offset }
+    requires start { (runner.start ≡ words.now.start.opening) × (runner.start.tick_raw ≡ opens_of runner.start) }
     requires turn { IsTrue runner.stamps → IsOwner runner.seat.view × StampsAreWhole runner.seat.view }
     ensures own { place_of result.seat ≡ words.now }
     ensures numbers { numbers_of result.seat.view ≡ numbers_of runner.seat.view }
 {
     let other = runner.other;
+    let start = runner.start;
     for call in 0..CALLS {
         let now = i64::from(call) * 10;
-        if runner.stamps {
-            stamp(words, &mut runner.seat, now, now + 5);
-        }
-        let local = local(words, &mut runner.seat, call, now + 20);
-        let remote = couple(words, &mut runner.seat, call, other);
-        note(&mut runner.log, local);
-        note(&mut runner.log, remote);
+        let raw = after(&start, now);
+        stamp_if(words, &mut runner.seat, runner.stamps, now, raw);
+        let step = local(words, &mut runner.seat, call, after(&start, now + 15));
+        note(&mut runner.log, step);
+        let step = couple(words, &mut runner.seat, call, other);
+        note(&mut runner.log, step);
     }
     runner
 }
@@ -167,9 +112,9 @@ fn two<R: Threads + Sync>(rt: &R, words: &Words, a: Runner, b: Runner) -> (Runne
     requires own { (place_of a.seat ≡ words.now) × (place_of b.seat ≡ words.now) }
     requires found { HasFoundPerCpu a.seat.view × HasFoundPerCpu b.seat.view }
     requires reading { IsReading a.seat.view.kind × IsReading b.seat.view.kind }
-    requires cpu { (cpu_of a.seat.view.kind < words.now.start.cpus) × (cpu_of b.seat.view.kind < words.now.start.cpus) }
     requires other { (a.other < words.now.start.cpus) × (b.other < words.now.start.cpus) }
-    requires start { (words.now.start.tick ≡ TICK) × IsRaw words.now.start.opening.offset }
+    requires start_a { (a.start ≡ words.now.start.opening) × (a.start.tick_raw ≡ opens_of a.start) }
+    requires start_b { (b.start ≡ words.now.start.opening) × (b.start.tick_raw ≡ opens_of b.start) }
     requires turn_a { IsTrue a.stamps → IsOwner a.seat.view × StampsAreWhole a.seat.view }
     requires turn_b { IsTrue b.stamps → IsOwner b.seat.view × StampsAreWhole b.seat.view }
     ensures own { (place_of result.0.seat ≡ words.now) × (place_of result.1.seat ≡ words.now) }
@@ -186,6 +131,7 @@ fn hired(
     kind: SeatKind,
     stamps: bool,
     other: u32,
+    start: Opening,
 ) -> Result<Runner, AllocError>
     requires own { place_of first.old ≡ words.now }
     requires right { MaySplit first.old.view kind }
@@ -193,7 +139,7 @@ fn hired(
     requires room { first.old.view.made + 1 < 2 ^ 32 }
     ensures old { OnOk result (first.new ≡ record { table = words.now.table; view = giver_view kind first.old.view }) }
     ensures new { IfOk result (λ r. r.seat ≡ record { table = words.now.table; view = given_view kind first.old.view }) }
-    ensures rest { IfOk result (λ r. (r.stamps ≡ stamps) × (r.other ≡ other)) }
+    ensures rest { IfOk result (λ r. (r.stamps ≡ stamps) × (r.other ≡ other) × (r.start ≡ start)) }
 {
     let log = Vec::with_capacity(alloc, 2 * CALLS as usize)?;
     let seat = words.split(first, kind);
@@ -201,6 +147,7 @@ fn hired(
         seat,
         stamps,
         other,
+        start,
         log,
     })
 }
@@ -230,11 +177,44 @@ fn are_chains(closed: &Closed, mut steps: Vec<Step>) -> bool
 #[test]
 fn steps_of_four_threads_are_chains(rt: HostRuntime) -> Result<(), AllocError> {
     let alloc = rt.alloc();
-    let (words, mut first) = Words::new(alloc, 2, TICK, OPENING)?;
-    let a = hired(alloc, &words, &mut first, SeatKind::Owner(0), true, 1)?;
-    let b = hired(alloc, &words, &mut first, SeatKind::Owner(1), true, 0)?;
-    let c = hired(alloc, &words, &mut first, SeatKind::Reader(0), false, 1)?;
-    let d = hired(alloc, &words, &mut first, SeatKind::Reader(1), false, 0)?;
+    let start = opening(10, 10);
+    let (words, mut first) = Words::new(alloc, 2, TICK, start)?;
+    let a = hired(
+        alloc,
+        &words,
+        &mut first,
+        SeatKind::Owner(0),
+        true,
+        1,
+        start,
+    )?;
+    let b = hired(
+        alloc,
+        &words,
+        &mut first,
+        SeatKind::Owner(1),
+        true,
+        0,
+        start,
+    )?;
+    let c = hired(
+        alloc,
+        &words,
+        &mut first,
+        SeatKind::Reader(0),
+        false,
+        1,
+        start,
+    )?;
+    let d = hired(
+        alloc,
+        &words,
+        &mut first,
+        SeatKind::Reader(1),
+        false,
+        0,
+        start,
+    )?;
     let ((a, b), (c, d)) = join(&rt, || two(&rt, &words, a, b), || two(&rt, &words, c, d));
     let mut steps = Vec::new(alloc);
     for log in [a.log, b.log, c.log, d.log] {

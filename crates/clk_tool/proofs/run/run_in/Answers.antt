@@ -1,5 +1,5 @@
-use Rattle.std.proofs.Common.{refl, rules, arith, subst, FitsSigned, w64, to_z-of_z, ◌+ℤ◌}
-use Rattle.std.proofs.lemmas.Int.{ints}
+use Rattle.std.proofs.Common.{refl, rules, subst, FitsSigned, w64, to_z-of_z}
+use Rattle.clk_num.proofs.Heights.{sum_is}
 use Rattle.clk_words.specs.declared.opening.Start.{Start}
 use Rattle.clk_words.specs.Histories.{opens_at, steps_on, IsChain}
 use Rattle.clk_tool.specs.Running.{IsSound}
@@ -9,14 +9,6 @@ use Rattle.clk_tool.proofs.run.run_in.Goals as goal
 
 pub run_thread-ran-requires-clause-ready : goal.run_thread-ran-requires-clause-ready
 run_thread-ran-requires-clause-ready g c = may_run c.args.boot c.requires.built c.requires.booted
-
-pub overflow_add-trace : goal.overflow_add-trace
-overflow_add-trace g c =
-    let gtod : FitsSigned w64 c.args.boot.stamp.gtod = search rules in
-    let offset : FitsSigned w64 c.args.boot.stamp.offset = search rules in
-    let (from, upto) = c.requires.booted.stamped.gtod_bound in
-    let (low, high) = c.requires.booted.stamped.offset_bound in
-    simp to_z-of_z (omega (arith, ints, from, upto, low, high))
 
 pub end_words-closed-requires-clause-owner : goal.end_words-closed-requires-clause-owner
 end_words-closed-requires-clause-owner g c =
@@ -30,10 +22,7 @@ returns g c =
     let ran = c.run_thread-ran.ensures in
     let gtod : FitsSigned w64 b.stamp.gtod = search rules in
     let offset : FitsSigned w64 b.stamp.offset = search rules in
-    let (from, upto) = booted.stamped.gtod_bound in
-    let (low, high) = booted.stamped.offset_bound in
-    let word : FitsSigned w64 (b.stamp.gtod +ℤ b.stamp.offset) = omega (arith, ints, from, upto, low, high) in
-    simp to_z-of_z (record {
+    simp (sum_is, to_z-of_z) (record {
       built = c.requires.built;
       boot = b;
       booted = booted;

@@ -1,7 +1,9 @@
-use Rattle.std.proofs.Common.{◌≡◌, Some, [], rules, sym, ap, ◌∙◌, subst, arith}
-use Rattle.std.proofs.lemmas.Int.{ints}
+use Rattle.std.proofs.Common.{◌≡◌, Some, [], rules, sym, ap, ◌∙◌, subst}
+use mir.Syntax.{w64}
+use Rattle.std.proofs.lemmas.Int.{to_z-of_z}
 use Rattle.atomic_table.specs.Table.{Me}
-use Rattle.clk_num.specs.Biased.{IsWordOf}
+use Rattle.clk_num.specs.Wrapping.{IsValue, IsBitsOf, bits_of}
+use Rattle.clk_num.proofs.Heights.{bits_are}
 use Rattle.clk_latch.specs.declared.rule.Knows.{Knows}
 use Rattle.clk_latch.specs.Kept.{knows_first}
 use Rattle.clk_latch.specs.Seated.{IsOwner}
@@ -12,8 +14,9 @@ use Rattle.clk_latch.proofs.latch.Latch.new.Goals as goal
 
 pub of_words-requires : goal.of_words-requires
 of_words-requires c =
-    let ns : IsWordOf c.args.zero.ns c.word_of-ns.result = omega (arith, ints, c.word_of-ns.ensures, c.requires.zero.ns) in
-    starts _ _ _ c.requires.updates ns c.requires.zero.ns (zero_small _ c.requires.zero)
+    let fits : IsValue c.args.zero.ns = search rules in
+    let ns : IsBitsOf c.args.zero.ns c.bits_of-ns.result = subst (IsBitsOf c.args.zero.ns) (ap bits_of (sym (to_z-of_z w64 c.args.zero.ns fits)) ∙ sym c.bits_of-ns.ensures) (bits_are c.args.zero.ns fits) in
+    starts _ _ _ c.requires.updates ns (zero_small _ c.requires.zero)
 
 pub invariant_of-result-2 : goal.invariant_of-result-2
 invariant_of-result-2 c =

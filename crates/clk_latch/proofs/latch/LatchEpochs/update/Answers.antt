@@ -17,7 +17,7 @@ publish-requires-clause-may c =
     let made = is_made of.machine.now of.cpu of.adjust c.args.seat.now c.seat.inside.seat c.seat.inside.current c.unwrap-last.result c.args.time.now
     c.draw-ticket.result c.cycles_at-cyc.result c.ns_since.result c.seat.view_is c.seat.invariant c.requires.owner c.unwrap-last.ensures
     (record { limits = c.cycles_at-cyc.ensures.limits; there = c.requires.cpu; near = c.requires.adjust })
-    c.requires.records c.requires.drawn drew.above drew.later drew.bound (search rules) c.ns_since.ensures.value c.ns_since.ensures.bound in
+    c.requires.records c.requires.drawn drew.above drew.later drew.bound (search rules) c.ns_since.ensures.value in
     record {
       owner = made.own;
       left = omega (arith, c.requires.left, made.left);
@@ -34,7 +34,7 @@ invariant_of-seat c =
     let made = is_made of.machine.now of.cpu of.adjust c.args.seat.now c.seat.inside.seat c.seat.inside.current c.unwrap-last.result c.args.time.now
     c.draw-ticket.result c.cycles_at-cyc.result c.ns_since.result c.seat.view_is c.seat.invariant c.requires.owner c.unwrap-last.ensures
     (record { limits = c.cycles_at-cyc.ensures.limits; there = c.requires.cpu; near = c.requires.adjust })
-    c.requires.records c.requires.drawn drew.above drew.later drew.bound (search rules) c.ns_since.ensures.value c.ns_since.ensures.bound in
+    c.requires.records c.requires.drawn drew.above drew.later drew.bound (search rules) c.ns_since.ensures.value in
     let is = c.publish.ensures.is in
     let left : 1 ≤ c.seat.inside.seat.me.0.left = omega (arith, c.requires.left, made.left) in
     let owner = still_owner c.unwrap-last.result p _ _ made.owner c.unwrap-last.ensures refl made.update.small made.update.order left in
@@ -52,7 +52,7 @@ returns-clause-updates c =
     let made = is_made of.machine.now of.cpu of.adjust c.args.seat.now c.seat.inside.seat c.seat.inside.current c.unwrap-last.result c.args.time.now
     c.draw-ticket.result c.cycles_at-cyc.result c.ns_since.result c.seat.view_is c.seat.invariant c.requires.owner c.unwrap-last.ensures
     (record { limits = c.cycles_at-cyc.ensures.limits; there = c.requires.cpu; near = c.requires.adjust })
-    c.requires.records c.requires.drawn drew.above drew.later drew.bound (search rules) c.ns_since.ensures.value c.ns_since.ensures.bound in
+    c.requires.records c.requires.drawn drew.above drew.later drew.bound (search rules) c.ns_since.ensures.value in
     updates of.machine.now of.cpu of.adjust c.args.seat.now c.seat.inside.seat p _ c.publish.new.seat.me c.seat.view_is made.update c.publish.ensures.is
 
 pub returns-clause-drawn : goal.returns-clause-drawn
@@ -63,5 +63,5 @@ returns-clause-drawn c =
     let made = is_made of.machine.now of.cpu of.adjust c.args.seat.now c.seat.inside.seat c.seat.inside.current c.unwrap-last.result c.args.time.now
     c.draw-ticket.result c.cycles_at-cyc.result c.ns_since.result c.seat.view_is c.seat.invariant c.requires.owner c.unwrap-last.ensures
     (record { limits = c.cycles_at-cyc.ensures.limits; there = c.requires.cpu; near = c.requires.adjust })
-    c.requires.records c.requires.drawn drew.above drew.later drew.bound (search rules) c.ns_since.ensures.value c.ns_since.ensures.bound in
+    c.requires.records c.requires.drawn drew.above drew.later drew.bound (search rules) c.ns_since.ensures.value in
     drawn_after c.seat.inside.seat.me.0 c.seat.inside.seat.me.1 p c.args.time.now c.draw-ticket.new.seat c.publish.new.seat.me drew.is c.publish.ensures.is made.update.drawn

@@ -8,7 +8,7 @@ use Rattle.clk_local.proofs.tests.threads.run_owner.Given as goal
 -- the thread may go on, with tickets for the calls to come
 abbrev pub invariant-loop-call : goal.invariant-loop-call
 invariant-loop-call l = record {
-  usable : IsUsable (λ k s. s.latch ≡ k) l.ctx;
+  usable : IsUsable (λ k s. s.latch ≡ k) (λ s. s.epoch) l.ctx;
   words : l.ctx.words.now ≡ l.initial.ctx.words.now;
   latch : l.ctx.epochs.now ≡ l.initial.ctx.epochs.now;
   tickets : l.ctx.tickets.now ≡ l.initial.ctx.tickets.now;

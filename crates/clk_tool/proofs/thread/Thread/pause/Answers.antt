@@ -37,6 +37,8 @@ returns c =
           near = ready.usable.near;
           tick_is = ready.usable.tick_is;
           offset = ready.usable.offset;
+          base = ready.usable.base;
+          opening = ready.usable.opening;
         };
         may_stamp = ready.may_stamp;
         sound = draws_sound _ _ _ _ _ _ _ ready.sound drew;

@@ -1,7 +1,7 @@
 use Rattle.std.proofs.Common.{refl, arith, ap, ◌∙◌, sym, rules, append-nil}
 use Rattle.clk_ticket.specs.Time.{Time}
 use Rattle.clk_latch.specs.Epoch.{Epoch}
-use Rattle.clk_tool.proofs.Sounding.{updates_sound}
+use Rattle.clk_tool.proofs.Sounding.{sound_base, updates_sound}
 use Rattle.clk_tool.proofs.thread.Thread.update.Goals as goal
 
 pub returns : goal.returns
@@ -41,6 +41,8 @@ returns c =
           near = ready.usable.near;
           tick_is = ready.usable.tick_is;
           offset = ready.usable.offset;
+          base = sound_base _ _ _ _ updates_told.records;
+          opening = ready.usable.opening;
         };
         may_stamp = ready.may_stamp;
         sound = updates_sound _ _ _ _ _ _ _ ready.sound updates_told told.draws told.drawn;

@@ -6,7 +6,7 @@ pub returns-clause-loaded : goal.returns-clause-loaded
 returns-clause-loaded c =
     let fits : FitsSigned w64 c.load_clock.result = search rules in
     let told = c.load_clock.ensures.loads in
-    rw (to_z-of_z fits) (loaded_clock _ _ _ _ told, told.range)
+    rw (to_z-of_z fits) (loaded_clock _ _ _ _ told)
 
 pub returns-clause-trusted : goal.returns-clause-trusted
 returns-clause-trusted c = trusted_clock _ _ _ _ _ c.load_clock.ensures.loads c.requires.trusted

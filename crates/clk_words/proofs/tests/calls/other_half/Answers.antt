@@ -1,7 +1,9 @@
 use Rattle.std.proofs.Common.{sym, subst, rules, to_z-of_z, FitsSigned, w64}
 use Rattle.clk_words.specs.declared.step.Why.{Why}
 use Rattle.clk_words.specs.declared.step.Why.TheVariants.{Raise}
-use Rattle.clk_words.specs.Held.{Held}
+use Rattle.clk_words.specs.Histories.{opens_at}
+use Rattle.clk_words.specs.Bounds.{IsRaw}
+use Rattle.clk_words.specs.Held.{Held, Place}
 use Rattle.clk_words.specs.Knowing.{IsTrusted, StampsAreWhole}
 use Rattle.clk_words.proofs.Loading.{trusted_half}
 use Rattle.clk_words.proofs.Turns.{whole_gtod}
@@ -13,9 +15,10 @@ returns-clause-trusted c =
     let tick_raw : FitsSigned w64 c.args.tick_raw = search rules in
     let tick_gtod : FitsSigned w64 c.load_gtod-tick_gtod.result = search rules in
     let offset : FitsSigned w64 c.load_offset-offset.result = search rules in
+    let bound = subst (λ (p : Place). IsRaw (opens_at p.start) c.args.raw) (sym c.load_gtod-tick_gtod.ensures.own) c.requires.raw in
     let why : Why = Raise c.args.raw c.args.tick_raw c.load_gtod-tick_gtod.result c.load_offset-offset.result in
     let trusted : IsTrusted c.load_gtod-tick_gtod.new.seat.view why =
-    trusted_half _ _ _ _ _ _ c.requires.raw c.requires.loaded.0 c.load_gtod-tick_gtod.ensures.finds c.load_offset-offset.ensures.value in
+    trusted_half _ _ _ _ _ _ bound c.requires.loaded c.load_gtod-tick_gtod.ensures.finds c.load_offset-offset.ensures.value in
     rw (to_z-of_z raw, to_z-of_z tick_raw, to_z-of_z tick_gtod, to_z-of_z offset)
     (subst (λ (h : Held). IsTrusted h.view why) (sym c.load_offset-offset.ensures.seat) trusted)
 

@@ -13,7 +13,7 @@ returns-clause-loaded c =
     let told = c.load_raw.ensures.finds in
     let kind = ap (λ (v : View). cpu_of v.kind) told.finds.view_is in
     rw (to_z-of_z fits)
-    (subst (λ k. HasLoaded c.load_raw.new.seat.view (Raw k) c.load_raw.result) (sym kind) (loaded_stamp _ _ _ _ _ told.finds), told.range)
+    (subst (λ k. HasLoaded c.load_raw.new.seat.view (Raw k) c.load_raw.result) (sym kind) (loaded_stamp _ _ _ _ _ told.finds))
 
 pub returns-clause-turn : goal.returns-clause-turn
 returns-clause-turn c = λ owner whole. whole_raw _ _ _ c.load_raw.ensures.finds owner whole

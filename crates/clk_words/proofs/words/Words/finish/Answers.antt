@@ -1,9 +1,10 @@
-use Rattle.std.proofs.Common.{◌≡◌, sym, ap, ◌∙◌, subst}
+use Rattle.std.proofs.Common.{◌≡◌, sym, ap, ◌∙◌, subst, rules, to_z-of_z, FitsSigned, w64}
 use Rattle.std.specs.Slots.{slots_items}
 use Rattle.atomic_table.specs.declared.shared.Seat.{Seat as TableSeat}
 use Rattle.clk_words.specs.declared.opening.Start.{Start}
 use Rattle.clk_words.specs.declared.step.Step.{Step}
 use Rattle.clk_words.specs.declared.view.View.{View}
+use Rattle.clk_words.specs.Histories.{opens_at}
 use Rattle.clk_words.specs.Knowing.{HasAll}
 use Rattle.clk_words.specs.Held.{Held, Place}
 use Rattle.clk_words.specs.Seated.{AreEnded}
@@ -19,9 +20,11 @@ pub invariant_of-result : goal.invariant_of-result
 invariant_of-result c =
     let end = ended c in
     let last = c.of-last.ensures in
+    let fits : FitsSigned w64 c.self.inside.opens = search rules in
     let seat : AreEnded c.seat.inside.at.me.0.start c.seat.inside.at.me.0.seen (slots_items c.close_with-words.result.words) =
     subst (λ (s : Start). AreEnded s c.seat.inside.at.me.0.seen (slots_items c.close_with-words.result.words)) (sym end.start_is) end.words_are in (
       c.self.invariant.cpus_is ∙ ap (λ (s : Start). s.cpus) (sym end.start_is) ∙ ap (λ (s : TableSeat Step View). s.me.0.start.cpus) (sym last),
+      to_z-of_z fits ∙ c.self.invariant.opens_is ∙ ap opens_at (sym end.start_is) ∙ ap (λ (s : TableSeat Step View). opens_at s.me.0.start) (sym last),
       c.close_with-words.ensures.values.0,
       c.close_with-words.ensures.counts.1 ∙ c.self.invariant.slots,
       subst (λ (s : TableSeat Step View). AreEnded s.me.0.start s.me.0.seen (slots_items c.close_with-words.result.words)) (sym last) seat,

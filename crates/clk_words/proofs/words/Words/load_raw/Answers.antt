@@ -3,7 +3,7 @@ use Rattle.clk_words.specs.declared.view.View.{View}
 use Rattle.clk_words.specs.Kinds.{cpu_of}
 use Rattle.clk_words.specs.Held.{Held}
 use Rattle.clk_words.proofs.Stamping.{finds_raw_at}
-use Rattle.clk_words.proofs.Calling.{belongs, cpu_low, raw_place, within_table, place_kept, sits_finds, says_raw, raw_fits}
+use Rattle.clk_words.proofs.Calling.{belongs, cpu_low, raw_place, within_table, place_kept, sits_finds, says_raw}
 use Rattle.clk_words.proofs.words.Words.load_raw.Goals as goal
 
 pub load-requires : goal.load-requires
@@ -14,9 +14,6 @@ load-requires c =
     let within = within_table _ _ _ _ c.self.view_is c.raw_word-word.ensures.within in
     (own.table_is, within, finds_raw_at _ _ _ _ _ word c.seat.invariant.live (cpu_low _ _ _ _ _ own c.seat.invariant.within))
 
-pub value_of-requires : goal.value_of-requires
-value_of-requires c = let told = c.load.ensures.2 in raw_fits told.value c.load.result told.word_is told.finds.range
-
 pub invariant_of-seat : goal.invariant_of-seat
 invariant_of-seat c = let told = c.load.ensures.2 in sits_finds _ _ _ _ _ _ _ c.seat.invariant told.slots_kept _ _ _ told.finds.range told.finds.finds
 
@@ -24,8 +21,8 @@ pub returns : goal.returns
 returns c =
     let told = c.load.ensures.2 in
     let own = belongs _ _ c.seat.inside.at.me.0 _ _ _ c.seat.view_is c.requires.own c.self.view_is in
-    let fits : FitsSigned w64 c.value_of.result = search rules in
+    let fits : FitsSigned w64 c.value_of_bits.result = search rules in
     record {
       own = place_kept _ _ _ _ _ _ _ own c.self.view_is c.load.ensures.0 (ap (λ (u : View). u.start) told.finds.finds.view_is);
-      finds = rw (to_z-of_z fits) (says_raw _ _ _ _ _ _ told (ap (λ (h : Held). h.view) c.seat.view_is) c.value_of.ensures);
+      finds = rw (to_z-of_z fits) (says_raw _ _ _ _ _ _ told (ap (λ (h : Held). h.view) c.seat.view_is) (sym c.value_of_bits.ensures));
     }

@@ -6,7 +6,7 @@ use Rattle.clk_words.specs.Kinds.{cpu_of}
 use Rattle.clk_words.specs.Knowing.{IsOwner, StampsAreWhole}
 use Rattle.clk_words.specs.Held.{Held}
 use Rattle.clk_words.proofs.Stamping.{stores_gtod_at}
-use Rattle.clk_words.proofs.Calling.{belongs, cpu_low, gtod_place, within_table}
+use Rattle.clk_words.proofs.Calling.{belongs, cpu_low, gtod_place, within_table, bits_here}
 use Rattle.clk_words.proofs.Turns.{half_stamped}
 use Rattle.clk_words.proofs.words.Words.stamp_gtod.Goals as goal
 
@@ -17,7 +17,7 @@ store-requires c =
     let word = gtod_place _ _ _ _ _ _ c.self.view_is c.gtod_word-word.ensures.word cpu in
     let within = within_table _ _ _ _ c.self.view_is c.gtod_word-word.ensures.within in
     let fits : FitsSigned w64 c.args.value = search rules in
-    let word_is = simp to_z-of_z at c.word_of-new.ensures in
+    let word_is = bits_here c.args.value c.bits_of-new.result fits (simp to_z-of_z at c.bits_of-new.ensures) in
     let owner = subst (λ (h : Held). IsOwner h.view) (sym c.seat.view_is) c.requires.owner in
     let turn = subst (λ (h : Held). StampsAreWhole h.view) (sym c.seat.view_is) c.requires.turn in
     (own.table_is, within, stores_gtod_at _ _ _ _ _ _ c.args.value word c.seat.invariant.live (cpu_low _ _ _ _ _ own c.seat.invariant.within) owner word_is c.requires.bound turn)
