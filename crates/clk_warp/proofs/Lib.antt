@@ -1,0 +1,9 @@
+pub mod Placing
+pub mod Counting
+pub mod Meaning
+pub mod Stating
+pub mod Folding
+pub mod Keeping
+pub mod Ending
+pub mod Seating
+pub mod Working

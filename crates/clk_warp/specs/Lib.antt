@@ -1,0 +1,16 @@
+pub mod Sides
+pub mod Falls
+pub mod Few
+pub mod Counts
+pub mod Keeping
+pub mod Verdicts
+pub mod Run
+pub mod Warps
+pub mod Stated
+pub mod Sections
+pub mod Kept
+pub mod Turns
+pub mod Seated
+pub mod Locking
+pub mod Working
+pub mod Laws

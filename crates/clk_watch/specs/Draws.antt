@@ -1,0 +1,19 @@
+-- Tickets that were drawn one by one.
+use Rattle.std.specs.Prelude.{◌≡◌, ℕ, ◌+◌, ◌^◌, ◌<◌, List, ◌++◌, map, length}
+use Rattle.std.specs.List.{All}
+use Rattle.clk_base.specs.declared.block.Block.{Block}
+use Rattle.clk_base.specs.Blocks.{Rises}
+use Rattle.clk_ticket.specs.Time.{Time, share_of}
+
+-- the block of one ticket
+abbrev pub single : ℕ → Block
+single ticket = record { first = ticket; count = 1 }
+
+-- these tickets were drawn, each alone and in this order, so that the blocks rise if they rose before
+pub record DrawsEach (tickets : List ℕ) (before after : Time) : Type 0 where
+  pub table_is : after.table ≡ before.table
+  pub left : after.left + length tickets ≡ before.left
+  pub blocks : after.blocks ≡ before.blocks ++ map single tickets
+  pub share : share_of after ≡ share_of before
+  pub rises : Rises before.blocks → Rises after.blocks
+  pub below : All (λ ticket. ticket < 2 ^ 24) tickets

@@ -1,0 +1,9 @@
+pub mod Draws
+pub mod Brackets
+pub mod Trying
+pub mod Fold
+pub mod Visiting
+pub mod Watching
+pub mod Laws
+pub mod Small
+pub mod Kept

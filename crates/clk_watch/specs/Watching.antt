@@ -1,0 +1,58 @@
+-- What contracts see of a `Watch`, and what a visit does to it.
+use Rattle.std.specs.Prelude.{◌≡◌, ℕ, ◌+◌, ◌*◌, ◌≤◌, Bool, ℤ, List, [], ◌∷◌, ◌++◌, length, Option, Some, None}
+use Rattle.clk_num.specs.Listed.{Listed}
+use Rattle.clk_ticket.specs.Time.{Time}
+use Rattle.clk_machine.specs.declared.parts.WatchPart.{WatchPart}
+use Rattle.clk_machine.specs.Plan.{Plan, count_of}
+use Rattle.clk_watch.specs.declared.attempt.Attempt.{Attempt}
+use Rattle.clk_watch.specs.declared.record.SourceRecord.{SourceRecord}
+use Rattle.clk_watch.specs.declared.watched.Watched.{Watched}
+use Rattle.clk_watch.specs.Brackets.{retries_of, Tries}
+use Rattle.clk_watch.specs.Fold.{at_first, after_record, watch_after, IsVisit}
+
+-- the machine that is watched, whether its TSC source was lost at boot, and the attempts and records so far
+pub record Watching : Type 0 where
+  pub machine : Plan
+  pub tsc_unstable : Bool
+  pub attempts : Listed Attempt
+  pub records : Listed SourceRecord
+
+-- what is kept of the sources
+abbrev pub kept_of : Watching → List Watched
+kept_of w = watch_after w.attempts.items (at_first w.machine w.tsc_unstable) w.records.items
+
+-- how many visits the checks of a machine make at most
+abbrev pub checks_in : Option WatchPart → ℕ
+checks_in None = 0
+checks_in (Some w) = count_of w.checks
+
+abbrev pub visits_of : Plan → ℕ
+visits_of m = checks_in m.watchdog * length m.source
+
+-- a watch that has room for all of them, and for all of their attempts
+abbrev pub started : Plan → Bool → Watching
+started m lost = record {
+  machine = m;
+  tsc_unstable = lost;
+  attempts = record { items = []; room = visits_of m * (retries_of m + 1) };
+  records = record { items = []; room = visits_of m };
+}
+
+-- a visit to source s, on this CPU: the attempts that were made and appended, and what they call for
+pub record Visits (m : Plan) (cpu : ℕ) (adjust : ℤ) (s : ℕ) (ws : List Watched) (before after : Listed Attempt) (t u : Time) (r : SourceRecord) (left : List Watched) : Type 0 where
+  pub made : List Attempt
+  pub tries : Tries m cpu adjust s before made after t u
+  pub few : length made ≤ retries_of m + 1
+  pub source_is : r.source ≡ s
+  pub first_is : r.first ≡ length before.items
+  pub count_is : r.count ≡ length made
+  pub visit : IsVisit m after.items ws r
+  pub left_is : left ≡ after_record after.items r ws
+
+-- the record of a visit is appended, and nothing else changes but what it leaves of the sources
+pub record Checks (cpu : ℕ) (adjust : ℤ) (s : ℕ) (w : Watching) (t : Time) (r : SourceRecord) (v : Watching) (u : Time) : Type 0 where
+  pub visits : Visits w.machine cpu adjust s (kept_of w) w.attempts v.attempts t u r (kept_of v)
+  pub records : v.records.items ≡ w.records.items ++ r ∷ []
+  pub room : v.records.room + 1 ≡ w.records.room
+  pub machine_is : v.machine ≡ w.machine
+  pub tsc_is : v.tsc_unstable ≡ w.tsc_unstable
