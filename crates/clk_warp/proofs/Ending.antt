@@ -1,12 +1,12 @@
 -- The rule holds of a new lock, is kept by its split and its join, and says at the end what stands in the slot.
-use Rattle.std.proofs.Common.{◌≡◌, ◌≢◌, ℕ, zero, suc, ◌+◌, ◌<◌, ◌≤◌, ◌⊎◌, inl, inr, List, [], ◌∷◌, ◌++◌, length, get_or, set, Some, None, Option, refl, sym, ap, ◌∙◌, subst, ⊎_elim, arith, length-set, length-append}
+use Rattle.std.proofs.Common.{◌≡◌, ◌≢◌, ℕ, zero, suc, ◌<◌, ◌≤◌, List, [], ◌∷◌, ◌++◌, length, get_or, set, Some, Option, refl, sym, ap, ◌∙◌, subst, ⊎_elim, arith, length-append}
 use Rattle.std.specs.List.{sum_by}
 use Rattle.std.proofs.lemmas.List.Sums.{sum_by-cons}
 use Rattle.std.proofs.lemmas.Bool.{cases_eq}
-use mathlib.Core.Option.{Option as Maybe, some, none, some-injective, some-ne-none}
+use mathlib.Core.Option.{Option as Maybe, some, some-injective, some-ne-none}
 use mathlib.Core.List.{IsPrefix}
 use lib.ListN.{get_elem?}
-use Rattle.atomic_table.specs.Table.{State, Splits, Joins, Final, Seen, opening}
+use Rattle.atomic_table.specs.Table.{Splits, Joins, Final, Seen, opening}
 use Rattle.atomic_table.proofs.Lists.{at_set}
 use Rattle.clk_warp.specs.declared.side.Side.{Side}
 use Rattle.clk_warp.specs.declared.side.Side.TheVariants.{Source, Target}
@@ -16,7 +16,7 @@ use Rattle.clk_warp.specs.declared.view.Role.TheVariants.{First, Of, Joined, Spe
 use Rattle.clk_warp.specs.declared.view.Stage.TheVariants.{Away}
 use Rattle.clk_warp.specs.declared.view.View.{View}
 use Rattle.clk_warp.specs.Run.{Run}
-use Rattle.clk_warp.specs.Sections.{after, AreSections, sections_of}
+use Rattle.clk_warp.specs.Sections.{after, AreSections}
 use Rattle.clk_warp.specs.Kept.{Locked, next, serving, rank, place, Known, NoneIs, Kept, knows_first, knows_side, knows_both, knows_nothing}
 use Rattle.clk_warp.proofs.Folding.{prefix_self, at_below}
 use Rattle.clk_warp.proofs.Keeping.{total_set, view_set, none_before, apart_set}

@@ -1,26 +1,24 @@
 -- Each step of the warp lock keeps the rule.
-use Rattle.std.proofs.Common.{◌≡◌, ◌≢◌, ℕ, zero, suc, ◌+◌, ◌%◌, ◌^◌, ◌<◌, ◌≤◌, eqb, true, false, List, [], ◌∷◌, ◌++◌, length, get_or, set, Some, None, Option, refl, sym, ap, ◌∙◌, subst, ⊎_elim, inl, inr, arith, length-set, length-append, get_or-set_same, get_or-set_other}
+use Rattle.std.proofs.Common.{◌≡◌, ◌≢◌, ℕ, zero, suc, ◌+◌, ◌%◌, ◌^◌, ◌<◌, ◌≤◌, eqb, false, List, [], ◌∷◌, ◌++◌, length, get_or, set, Some, Option, refl, sym, ap, ◌∙◌, subst, ⊎_elim, arith, length-set, get_or-set_same, get_or-set_other}
 use Rattle.std.specs.List.{sum_by}
 use Rattle.std.proofs.lemmas.List.{set-get_or, length_push}
-use Rattle.std.proofs.lemmas.List.Sums.{sum_by-cons, sum_by_push}
+use Rattle.std.proofs.lemmas.List.Sums.{sum_by-cons}
 use Rattle.std.proofs.lemmas.Bool.{cases_eq}
 use mathlib.Core.Option.{Option as Maybe, some, none, some-injective, some-ne-none}
 use mathlib.Core.List.{IsPrefix}
 use lib.ListN.{get_elem?}
 use prog.Atomic.{either}
-use Rattle.atomic_table.specs.Table.{State, Me, Act, keeps, takes, gives, step, stepped, carried_after, Valid, Allows}
-use Rattle.atomic_table.proofs.Lists.{at_set, at_snoc, set_here, set_else, set_again, exchanged}
+use Rattle.atomic_table.specs.Table.{Me, Act, keeps, takes, gives, step, stepped, carried_after, Valid, Allows}
+use Rattle.atomic_table.proofs.Lists.{at_set, set_here, set_else, set_again, exchanged}
 use Rattle.clk_warp.specs.declared.side.Side.{Side}
 use Rattle.clk_warp.specs.declared.side.Side.TheVariants.{Source, Target}
 use Rattle.clk_warp.specs.declared.section.Section.{Section}
-use Rattle.clk_warp.specs.declared.view.Role.{Role}
 use Rattle.clk_warp.specs.declared.view.Role.TheVariants.{First, Of, Joined, Spent}
-use Rattle.clk_warp.specs.declared.view.Stage.{Stage}
 use Rattle.clk_warp.specs.declared.view.Stage.TheVariants.{Away, Waiting, Called as CalledStage, Inside as InsideStage, Given}
 use Rattle.clk_warp.specs.declared.view.View.{View}
 use Rattle.clk_warp.specs.Sides.{other_side}
 use Rattle.clk_warp.specs.Run.{Run, change, IsSection, is_of}
-use Rattle.clk_warp.specs.Sections.{after, AreSections, MayMake, sections_of}
+use Rattle.clk_warp.specs.Sections.{after, AreSections, MayMake}
 use Rattle.clk_warp.specs.Kept.{Locked, next, serving, rank, place, Known, NoneIs, Kept, knows_ticket, knows_called, knows_inside, knows_given, knows_away, Drew, Called, Took, Gave, Raised}
 use Rattle.clk_warp.proofs.Folding.{after_push, legal_push, both_push, theirs_push, prefix_self, prefix_push, at_below}
 

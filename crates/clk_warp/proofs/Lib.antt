@@ -7,3 +7,5 @@ pub mod Keeping
 pub mod Ending
 pub mod Seating
 pub mod Working
+pub mod Pairing
+pub mod Sent

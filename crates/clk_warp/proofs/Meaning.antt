@@ -1,13 +1,13 @@
 -- What falls mean.
-use Rattle.std.proofs.Common.{◌≡◌, ◌≢◌, ℕ, zero, suc, ◌+◌, ◌-◌, ◌<◌, ◌≤◌, ◌↔◌, Bool, true, false, cond, not, ◌&&◌, ltb, List, [], ◌∷◌, ◌++◌, length, fold, max, refl, sym, ap, ◌∙◌, subst, arith}
-use Rattle.std.specs.List.{All, filter}
-use Rattle.std.proofs.lemmas.Bool.{le-ltb, cond_both}
-use Rattle.std.proofs.lemmas.List.Elements.{All-nil, All-cons, All-head, All-tail, All-push, All-append, All-weaker, All-filter}
+use Rattle.std.proofs.Common.{◌≡◌, ◌≢◌, ℕ, ◌+◌, ◌-◌, ◌<◌, ◌≤◌, Bool, true, false, cond, not, ◌&&◌, ltb, List, [], ◌∷◌, ◌++◌, fold, max, refl, sym, ap, subst, arith}
+use Rattle.std.specs.List.{All}
+use Rattle.std.proofs.lemmas.Bool.{le-ltb}
+use Rattle.std.proofs.lemmas.List.Elements.{All-nil, All-cons, All-head, All-tail, All-push, All-weaker, All-filter}
 use Rattle.clk_warp.specs.declared.side.Side.{Side}
 use Rattle.clk_warp.specs.declared.side.Side.TheVariants.{Source, Target}
 use Rattle.clk_warp.specs.declared.side.WarpReading.{WarpReading}
-use Rattle.clk_warp.specs.Sides.{is_same, turns_of, last_tsc}
-use Rattle.clk_warp.specs.Falls.{Limits, Fall, each_after, is_last, turn_before, is_fall, falls, greatest, changes, has_fall, through_last, greatest_seen}
+use Rattle.clk_warp.specs.Sides.{is_same, turns_of}
+use Rattle.clk_warp.specs.Falls.{Limits, Fall, each_after, is_last, turn_before, is_fall, changes, has_fall, through_last}
 use Rattle.clk_warp.specs.Laws.{NeverFall, NoFallWhereNoneFalls, GreatestIsMost, SeenIsAtMostGreatest, HasChange, ChangesWhereSidesChange}
 
 -- ---- no fall where none falls

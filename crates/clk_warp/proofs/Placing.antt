@@ -1,14 +1,12 @@
 -- One more reading, in each definition over the whole list.
-use Rattle.std.proofs.Common.{◌≡◌, ℕ, ◌+◌, ◌-◌, ◌<◌, ◌≤◌, Bool, true, false, cond, not, ◌&&◌, ◌||◌, ltb, eqb, List, [], ◌∷◌, ◌++◌, length, fold, max, append_assoc, append-nil, length-append, refl, sym, ap, ◌∙◌, arith}
-use Rattle.std.specs.List.{filter, list_any}
+use Rattle.std.proofs.Common.{◌≡◌, ℕ, ◌-◌, ◌<◌, Bool, true, false, cond, not, ◌||◌, List, [], ◌∷◌, ◌++◌, length, max, append_assoc, append-nil, refl, sym, ap, ◌∙◌, arith}
+use Rattle.std.specs.List.{list_any}
 use Rattle.std.proofs.lemmas.List.Elements.{filter-append}
-use Rattle.std.proofs.lemmas.Grind.{common_steps, fold-append}
-use Rattle.std.proofs.lemmas.List.{length_push}
+use Rattle.std.proofs.lemmas.Grind.{fold-append}
 use Rattle.clk_warp.specs.declared.side.Side.{Side}
-use Rattle.clk_warp.specs.declared.side.Side.TheVariants.{Source, Target}
 use Rattle.clk_warp.specs.declared.side.WarpReading.{WarpReading}
 use Rattle.clk_warp.specs.Sides.{is_same, of_side, turns_of, first_tsc, last_tsc}
-use Rattle.clk_warp.specs.Falls.{Limits, Fall, each_after, each_place, is_started, start_of, next_turn, is_over, is_last, ended_sides, is_ended, turn_before, is_fall, falls, greatest, changes, has_fall, through_last, greatest_seen}
+use Rattle.clk_warp.specs.Falls.{Limits, Fall, each_after, each_place, is_last, ended_sides, is_ended, turn_before, is_fall, falls, greatest}
 
 -- what one more reading gives stands behind what the others give
 each_after_push : {A : Type 0} (f : List WarpReading → WarpReading → List A) (front rs : List WarpReading) (r : WarpReading)

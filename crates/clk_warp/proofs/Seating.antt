@@ -1,5 +1,5 @@
 -- What a seat is after each call on the lock.
-use Rattle.std.proofs.Common.{◌≡◌, ℕ, ◌+◌, ◌%◌, ◌^◌, ◌<◌, true, false, List, [], ◌∷◌, ◌++◌, length, Some, None, Option, IsSome, refl, sym, ap, ◌∙◌, subst, arith, length-append}
+use Rattle.std.proofs.Common.{◌≡◌, ℕ, ◌+◌, ◌%◌, ◌^◌, ◌<◌, true, false, List, [], ◌∷◌, length, Some, None, Option, IsSome, refl, sym, ap, ◌∙◌, subst, length-append}
 use mathlib.Core.List.{IsPrefix}
 use mathlib.Core.Option.{some, none, some-injective}
 use lib.ListN.{get_elem?}
@@ -8,11 +8,11 @@ use Rattle.clk_warp.specs.declared.side.Side.{Side}
 use Rattle.clk_warp.specs.declared.section.Section.{Section}
 use Rattle.clk_warp.specs.declared.seat.TurnSeat.TheInside.{Inside}
 use Rattle.clk_warp.specs.declared.view.Role.TheVariants.{Of}
-use Rattle.clk_warp.specs.declared.view.Stage.TheVariants.{Away, Waiting, Called as CalledStage, Inside as InsideStage, Given}
+use Rattle.clk_warp.specs.declared.view.Stage.TheVariants.{Called as CalledStage}
 use Rattle.clk_warp.specs.declared.view.View.{View}
 use Rattle.clk_warp.specs.Run.{Run, change, IsSection}
 use Rattle.clk_warp.specs.Sections.{after, AreSections, MayMake, sections_of}
-use Rattle.clk_warp.specs.Turns.{Turn, Enters, IsChanged, Leaves, Closes}
+use Rattle.clk_warp.specs.Turns.{Enters, IsChanged, Leaves, Closes}
 use Rattle.clk_warp.specs.Kept.{Kept, knows_ticket, knows_called, knows_inside, knows_given, knows_away, knows_both, Took, Gave, Raised}
 use Rattle.clk_warp.specs.Seated.{turn_of, IsSeated}
 use Rattle.clk_warp.specs.Locking.{Place, IsOutside, IsWaiting, HasDrawn, HasBeenCalled}

@@ -1,11 +1,8 @@
 -- The state keeps its promises over one more reading.
-use Rattle.std.proofs.Common.{◌≡◌, ℕ, ◌+◌, ◌-◌, ◌*◌, ◌/◌, ◌^◌, ◌<◌, ◌≤◌, ◌⊎◌, Bool, true, false, not, ◌&&◌, ltb, List, [], ◌∷◌, ◌++◌, length, Option, Some, None, IfSome, inl, inr, append_assoc, append-nil, refl, sym, ap, ◌∙◌, subst, mul-le-mul, arith}
-use Rattle.std.specs.List.{All}
+use Rattle.std.proofs.Common.{◌≡◌, ℕ, ◌+◌, ◌*◌, ◌^◌, ◌<◌, ◌≤◌, Bool, true, false, not, ◌&&◌, List, [], ◌∷◌, ◌++◌, length, Option, Some, None, IfSome, inr, append_assoc, append-nil, refl, sym, ap, ◌∙◌, subst, mul-le-mul, arith}
 use Rattle.std.specs.Prelude.{option_map, is_some, IsSomeAnd}
-use Rattle.std.proofs.lemmas.Bool.{ltb-true, ltb-false, and_parts}
 use Rattle.std.proofs.lemmas.List.{length_push}
 use Rattle.std.proofs.lemmas.List.Elements.{All-push}
-use Rattle.clk_num.specs.Range.{IsNear}
 use Rattle.clk_ticket.specs.Time.{Time, Draws, after_draw}
 use Rattle.clk_machine.specs.Plan.{Plan, count_of}
 use Rattle.clk_machine.specs.Limits.{IsBringUp, IfThere, IsWithinLimits}
@@ -17,12 +14,12 @@ use Rattle.clk_warp.specs.declared.side.WarpReading.{WarpReading}
 use Rattle.clk_warp.specs.declared.progress.Progress.{Progress}
 use Rattle.clk_warp.specs.declared.counts.WarpCounts.{WarpCounts}
 use Rattle.clk_warp.specs.declared.section.Section.TheVariants.{Read}
-use Rattle.clk_warp.specs.Sides.{is_same, of_side}
-use Rattle.clk_warp.specs.Falls.{Limits, AreInTurn, is_ended, is_started, next_turn}
+use Rattle.clk_warp.specs.Sides.{of_side}
+use Rattle.clk_warp.specs.Falls.{Limits, AreInTurn, is_ended, is_started}
 use Rattle.clk_warp.specs.Few.{IsFew}
-use Rattle.clk_warp.specs.Counts.{progress_of, IsProgressOf, AreCountsOf}
+use Rattle.clk_warp.specs.Counts.{progress_of, AreCountsOf}
 use Rattle.clk_warp.proofs.Counting.{progress_at}
-use Rattle.clk_warp.specs.Run.{Run, timeout_in, turns_in, limits_in, limits_at, most_readings, cpu_of, adjust_of, is_here, both_here, side_ended, change, ShowsCounter, IsReading}
+use Rattle.clk_warp.specs.Run.{Run, timeout_in, limits_in, limits_at, most_readings, cpu_of, adjust_of, both_here, side_ended, change, ShowsCounter, IsReading}
 use Rattle.clk_warp.specs.Stated.{IsKept}
 
 -- ---- the span is small

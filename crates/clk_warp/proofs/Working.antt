@@ -1,13 +1,11 @@
 -- What a side finds under the lock and what it leaves there, in the terms of its own sections.
-use Rattle.std.proofs.Common.{◌≡◌, ℕ, ◌+◌, ◌-◌, ◌^◌, ◌<◌, ◌≤◌, Bool, true, false, cond, not, ◌&&◌, ◌||◌, List, [], ◌∷◌, ◌++◌, length, Option, Some, None, append_assoc, append-nil, length-append, refl, sym, ap, ap₂, ◌∙◌, subst, arith}
+use Rattle.std.proofs.Common.{◌≡◌, ℕ, ◌+◌, ◌-◌, ◌^◌, ◌<◌, Bool, true, false, cond, not, ◌&&◌, ◌||◌, List, [], ◌∷◌, ◌++◌, length, Option, Some, None, append_assoc, append-nil, refl, sym, ap, ap₂, ◌∙◌, subst, arith}
 use Rattle.std.specs.Prelude.{option_map, is_some}
-use Rattle.std.specs.List.{filter, list_any}
+use Rattle.std.specs.List.{list_any}
 use Rattle.std.proofs.lemmas.Bool.{and_parts, and_from}
 use Rattle.std.proofs.lemmas.List.{length_push, same_from_push}
 use mathlib.Core.List.{IsPrefix}
-use Rattle.atomic_table.specs.Seated.{TableId}
 use Rattle.clk_ticket.specs.Time.{Time, after_draw}
-use Rattle.clk_machine.specs.Plan.{Plan}
 use Rattle.clk_warp.specs.declared.side.Side.{Side}
 use Rattle.clk_warp.specs.declared.side.Side.TheVariants.{Source, Target}
 use Rattle.clk_warp.specs.declared.side.WarpReading.{WarpReading}
@@ -15,14 +13,14 @@ use Rattle.clk_warp.specs.declared.section.Section.{Section}
 use Rattle.clk_warp.specs.declared.section.Section.TheVariants.{Read, SourceArrives, TargetArrives, Pass}
 use Rattle.clk_warp.specs.Sides.{is_same, of_side, first_tsc}
 use Rattle.clk_warp.specs.Falls.{Limits, each_after, is_over, is_last, is_ended}
-use Rattle.clk_warp.specs.Run.{Run, limits_in, limits_at, both_here, side_ended, change, IsReading, is_of}
-use Rattle.clk_warp.specs.Sections.{after, AreSections, MayMake, sections_of}
+use Rattle.clk_warp.specs.Run.{Run, limits_in, limits_at, both_here, side_ended, change, IsReading}
+use Rattle.clk_warp.specs.Sections.{after, MayMake, sections_of}
 use Rattle.clk_warp.specs.Turns.{Lock, Turn, Enters, IsChanged, Leaves}
 use Rattle.clk_warp.specs.Working.{readings_of, IsReady}
 use Rattle.clk_warp.proofs.Placing.{mine_push as of_side_mine, theirs_push as of_side_theirs, any_push, any_other}
 use Rattle.clk_warp.proofs.Counting.{same_side}
 use Rattle.clk_warp.proofs.Meaning.{same_then}
-use Rattle.clk_warp.proofs.Folding.{after_push, after_append, both_push, prefix_self, prefix_push, prefix_trans}
+use Rattle.clk_warp.proofs.Folding.{after_push, after_append, both_push, prefix_push}
 
 -- ---- what sections leave as it is
 

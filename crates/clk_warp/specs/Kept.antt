@@ -8,7 +8,6 @@ use Rattle.atomic_table.specs.Table.{State, Me, Step}
 use Rattle.clk_warp.specs.declared.side.Side.{Side}
 use Rattle.clk_warp.specs.declared.side.Side.TheVariants.{Source, Target}
 use Rattle.clk_warp.specs.declared.section.Section.{Section}
-use Rattle.clk_warp.specs.declared.view.Role.{Role}
 use Rattle.clk_warp.specs.declared.view.Role.TheVariants.{First, Of, Joined, Spent}
 use Rattle.clk_warp.specs.declared.view.Stage.{Stage}
 use Rattle.clk_warp.specs.declared.view.Stage.TheVariants.{Away, Waiting, Called as CalledStage, Inside as InsideStage, Given}

@@ -1,5 +1,5 @@
 -- What falls mean.
-use Rattle.std.specs.Prelude.{◌≡◌, ◌≢◌, ◌↔◌, ℕ, ◌<◌, ◌≤◌, List, [], ◌∷◌, ◌++◌}
+use Rattle.std.specs.Prelude.{◌≡◌, ◌≢◌, ◌↔◌, ◌<◌, ◌≤◌, List, [], ◌∷◌, ◌++◌}
 use Rattle.std.specs.List.{All}
 use Rattle.clk_warp.specs.declared.side.Side.{Side}
 use Rattle.clk_warp.specs.declared.side.WarpReading.{WarpReading}

@@ -13,4 +13,5 @@ pub mod Turns
 pub mod Seated
 pub mod Locking
 pub mod Working
+pub mod Pairs
 pub mod Laws

@@ -1,9 +1,9 @@
 -- What a contract sees of a run's state under the warp lock, and what one section does to it.
-use Rattle.std.specs.Prelude.{◌≡◌, ℕ, ◌+◌, ◌*◌, ◌/◌, ◌≤◌, Bool, true, false, not, ◌&&◌, ℤ, pos, List, [], ◌∷◌, ◌++◌, length, Option, Some, None, option_map, is_some, refl}
+use Rattle.std.specs.Prelude.{◌≡◌, ℕ, ◌+◌, ◌*◌, ◌/◌, ◌≤◌, Bool, true, false, not, ◌&&◌, ℤ, pos, List, [], ◌∷◌, ◌++◌, Option, Some, None, option_map, is_some}
 use Rattle.atomic_table.specs.Seated.{TableId}
 use Rattle.clk_num.specs.Range.{IsNear}
 use Rattle.clk_ticket.specs.Time.{Time, Draws, after_draw}
-use Rattle.clk_machine.specs.Plan.{Plan, count_of, cpu_count}
+use Rattle.clk_machine.specs.Plan.{Plan, count_of}
 use Rattle.clk_machine.specs.Time.{counter_at}
 use Rattle.clk_machine.specs.declared.parts.BringUpPart.{BringUpPart}
 use Rattle.clk_warp.specs.declared.side.Side.{Side}

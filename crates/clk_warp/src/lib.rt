@@ -12,7 +12,7 @@
 //!   the state.
 //! - [`TurnLock`] is a ticket lock of two words and one slot. What a side finds under it is the first state, changed by as
 //!   many sections as its lock ticket, and all sections of its side are its own: `specs/Turns.antt`.
-//! - [`warp_worker`] runs one side.
+//! - [`warp_worker`] runs one side, and [`run_pair`] both, each on a thread of its own.
 //! - [`verdict`] says what comes after a run: it passed, or the target's counter is adjusted and both run again, or the
 //!   counters cannot be trusted.
 //!
@@ -24,6 +24,7 @@ mod judge;
 mod laws;
 mod lock;
 mod outcome;
+mod pair;
 mod progress;
 mod seat;
 mod section;
@@ -39,6 +40,7 @@ pub use judge::verdict;
 pub use laws::falls_are_counted;
 pub use lock::TurnLock;
 pub use outcome::Verdict;
+pub use pair::run_pair;
 pub use seat::TurnSeat;
 pub use side::{Side, WarpReading, WarpRun};
 pub use state::WarpState;

@@ -1,7 +1,4 @@
-use Rattle.std.proofs.Common.{◌≡◌, rules, ap, refl}
-use Rattle.atomic_table.specs.Table.{Me}
-use Rattle.clk_warp.specs.Run.{Run}
-use Rattle.clk_warp.specs.declared.view.View.{View}
+use Rattle.std.proofs.Common.{rules, ap}
 use Rattle.clk_warp.proofs.Ending.{splits}
 use Rattle.clk_warp.proofs.lock.seated.Goals as goal
 

@@ -1,4 +1,4 @@
-use Rattle.std.proofs.Common.{◌≡◌, ◌*◌, ◌^◌, ◌<◌, ◌≤◌, rules, arith}
+use Rattle.std.proofs.Common.{◌≡◌, rules}
 use Rattle.clk_machine.specs.Time.{counter_at}
 use Rattle.clk_machine.proofs.Readings.{counters_adjusted_twice_are_small}
 use Rattle.clk_warp.proofs.Stating.{far_from_end}

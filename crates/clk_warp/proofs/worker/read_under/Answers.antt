@@ -1,4 +1,4 @@
-use Rattle.std.proofs.Common.{◌≡◌, ◌+◌, ◌^◌, ◌<◌, ◌≤◌, true, false, List, length, ◌∙◌, ap, rules, sym, subst, arith}
+use Rattle.std.proofs.Common.{◌≡◌, ◌+◌, List, length, ◌∙◌, ap, sym, arith}
 use Rattle.std.proofs.lemmas.List.{length_push}
 use Rattle.clk_warp.specs.declared.section.Section.{Section}
 use Rattle.clk_warp.specs.declared.section.Section.TheVariants.{Read}

@@ -1,4 +1,4 @@
-use Rattle.std.proofs.Common.{◌≡◌, true, ◌∙◌, sym}
+use Rattle.std.proofs.Common.{◌∙◌, sym}
 use Rattle.clk_warp.proofs.Working.{own_ended}
 use Rattle.clk_warp.proofs.worker.run_side.Goals as goal
 

@@ -1,12 +1,9 @@
-use Rattle.std.proofs.Common.{◌≡◌, true, false, Some, None, IsSome, ◌∙◌, ap, rules, sym, subst, refl}
-use Rattle.atomic_table.specs.Table.{Me}
+use Rattle.std.proofs.Common.{◌≡◌, false, IsSome, ◌∙◌, ap, rules, sym, subst, refl}
 use Rattle.clk_warp.specs.declared.view.Role.TheVariants.{Joined}
-use Rattle.clk_warp.specs.declared.view.View.{View}
-use Rattle.clk_warp.specs.Run.{Run}
 use Rattle.clk_warp.specs.Turns.{Lock, Turn, Closes}
 use Rattle.clk_warp.specs.Kept.{knows_both}
 use Rattle.clk_warp.specs.Seated.{turn_of}
-use Rattle.clk_warp.proofs.Ending.{IsEnd, joins, finishes}
+use Rattle.clk_warp.proofs.Ending.{joins, finishes}
 use Rattle.clk_warp.proofs.Seating.{MeOf, end_as, slot_is, closes_by}
 use Rattle.clk_warp.proofs.lock.TurnLock.close.Goals as goal
 

@@ -1,4 +1,4 @@
-use Rattle.std.proofs.Common.{◌≡◌, ◌+◌, ◌^◌, ◌<◌, ◌∙◌, ap, rules, sym, subst, arith}
+use Rattle.std.proofs.Common.{◌∙◌, ap, rules}
 use Rattle.clk_warp.proofs.Keeping.{looks, draws}
 use Rattle.clk_warp.proofs.Seating.{MeOf}
 use Rattle.clk_warp.proofs.lock.TurnLock.draw.Goals as goal

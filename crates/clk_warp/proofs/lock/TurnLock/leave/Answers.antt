@@ -1,5 +1,4 @@
 use Rattle.std.proofs.Common.{◌≡◌, true, false, ◌∙◌, ap, rules, sym, subst}
-use Rattle.clk_warp.specs.Run.{Run}
 use Rattle.clk_warp.specs.Sections.{after}
 use Rattle.clk_warp.specs.Turns.{Lock, Turn, IsChanged, Leaves}
 use Rattle.clk_warp.specs.Seated.{turn_of}

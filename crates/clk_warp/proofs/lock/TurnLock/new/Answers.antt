@@ -1,4 +1,4 @@
-use Rattle.std.proofs.Common.{◌≡◌, [], ◌∷◌, List, Some, None, Option, ◌++◌, sym, ap, ◌∙◌, subst, rules}
+use Rattle.std.proofs.Common.{◌≡◌, [], ◌∷◌, List, Some, Option, sym, subst, rules}
 use Rattle.atomic_table.specs.Table.{opening}
 use Rattle.clk_warp.specs.Run.{Run}
 use Rattle.clk_warp.specs.Kept.{Kept, knows_first}

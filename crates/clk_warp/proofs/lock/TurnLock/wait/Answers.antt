@@ -1,4 +1,4 @@
-use Rattle.std.proofs.Common.{◌≡◌, ◌∙◌, ap, rules, sym, subst}
+use Rattle.std.proofs.Common.{◌∙◌, ap, rules}
 use Rattle.clk_warp.proofs.Keeping.{calls}
 use Rattle.clk_warp.proofs.Seating.{MeOf}
 use Rattle.clk_warp.proofs.lock.TurnLock.wait.Goals as goal

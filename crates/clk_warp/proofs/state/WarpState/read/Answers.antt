@@ -1,10 +1,9 @@
-use Rattle.std.proofs.Common.{◌≡◌, ◌<◌, ◌++◌, ◌∷◌, [], true, false, not, Option, List, rules, sym, ap, ◌∙◌, subst, arith}
+use Rattle.std.proofs.Common.{◌≡◌, ◌<◌, true, false, not, Option, List, rules, sym, ap, ◌∙◌, subst, arith}
 use Rattle.std.specs.Prelude.{IsSomeAnd}
 use Rattle.atomic_table.specs.Seated.{TableId}
 use Rattle.clk_ticket.specs.Time.{Time}
 use Rattle.clk_machine.specs.Time.{counter_at}
 use Rattle.clk_warp.specs.declared.side.WarpReading.{WarpReading}
-use Rattle.clk_warp.specs.declared.progress.Progress.{Progress}
 use Rattle.clk_warp.specs.declared.section.Section.TheVariants.{Read}
 use Rattle.clk_warp.specs.Run.{Run, limits_at, cpu_of, adjust_of, both_here, side_ended, change, IsReading}
 use Rattle.clk_warp.specs.Stated.{run_of, IsKept}
