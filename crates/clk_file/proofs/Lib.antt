@@ -6,3 +6,4 @@ pub mod Pairs
 pub mod ReaderWords
 pub mod Form
 pub mod Spelling
+pub mod Versions

@@ -9,6 +9,7 @@ use Rattle.toml.specs.View.{view}
 use Rattle.toml.specs.declared.value.Value.{Value}
 use Rattle.clk_base.specs.First.{first_from, first, each_from, each}
 use Rattle.clk_base.proofs.Firsts.{first_from-is, each_from-append, each_from-is, option_or-none}
+use Rattle.clk_machine.specs.declared.rows.Row.{Row}
 use Rattle.clk_file.specs.Keys.{Test, value_at, items_at, in_entry, tables_at}
 
 abbrev pub seen : ℕ → List Value → List Data
@@ -90,22 +91,22 @@ all_push P plan xs x all here = rw (map-push plan xs x) (All-push P (map plan xs
 
 -- ---- the tests of the tables among them
 
-pub entry_tested : (row : ℕ) (tests : ℕ → Members → List Test) (e : ℕ) (d : Data) (t : Members) → Some t ≡ as_table d → in_entry row tests e d ≡ first (tests e t)
+pub entry_tested : (row : Row) (tests : ℕ → Members → List Test) (e : ℕ) (d : Data) (t : Members) → Some t ≡ as_table d → in_entry row tests e d ≡ first (tests e t)
 unfolding in_entry
 entry_tested row tests e d t h = rw (← h)
 
-pub entry_refused : (row : ℕ) (tests : ℕ → Members → List Test) (e : ℕ) (d : Data) → None ≡ as_table d → in_entry row tests e d ≡ Some (value_at row e 0)
+pub entry_refused : (row : Row) (tests : ℕ → Members → List Test) (e : ℕ) (d : Data) → None ≡ as_table d → in_entry row tests e d ≡ Some (value_at row e 0)
 unfolding in_entry
 entry_refused row tests e d h = rw (← h)
 
-pub entry_tests-more : (r after before : Test) (row : ℕ) (tests : ℕ → Members → List Test) (vs : List Value) (i : ℕ) (v : Value) (t : Members) → i < length vs
+pub entry_tests-more : (r after before : Test) (row : Row) (tests : ℕ → Members → List Test) (vs : List Value) (i : ℕ) (v : Value) (t : Members) → i < length vs
     → v ≡ get_or vs i v → r ≡ each_from before (in_entry row tests) 1 (seen i vs) → Some t ≡ as_table (view v) → after ≡ first_from r (tests (i + 1) t)
     → after ≡ each_from before (in_entry row tests) 1 (seen (i + 1) vs)
 entry_tests-more r after before row tests vs i v t low is so_far table tested =
     tests_more r after before (in_entry row tests) vs i v low is so_far
     (tested ∙ first_from-is r (tests (i + 1) t) ∙ ap (option_or r) (sym (entry_tested row tests (i + 1) (view v) t table)))
 
-pub entry_tests-none : (r after before : Test) (row : ℕ) (tests : ℕ → Members → List Test) (vs : List Value) (i : ℕ) (v : Value) → i < length vs
+pub entry_tests-none : (r after before : Test) (row : Row) (tests : ℕ → Members → List Test) (vs : List Value) (i : ℕ) (v : Value) → i < length vs
     → v ≡ get_or vs i v → r ≡ each_from before (in_entry row tests) 1 (seen i vs) → None ≡ as_table (view v) → after ≡ option_or r (Some (value_at row (i + 1) 0))
     → after ≡ each_from before (in_entry row tests) 1 (seen (i + 1) vs)
 entry_tests-none r after before row tests vs i v low is so_far none refused =

@@ -1,23 +1,18 @@
 -- Acceptance: which machine some bytes are, or the first failing test.
-use Rattle.std.specs.Prelude.{ℕ, List, [], ◌∷◌, pos, codes, Option, Some, None, option_map, Result, Ok, Err}
+use Rattle.std.specs.Prelude.{ℕ, List, [], ◌∷◌, Option, Some, None, option_map, Result, Ok, Err}
 use Rattle.toml.specs.Data.{Members}
-use Rattle.clk_base.specs.First.{unless, first}
+use Rattle.clk_base.specs.First.{first}
 use Rattle.clk_machine.specs.declared.error.MachineError.{MachineError}
 use Rattle.clk_machine.specs.declared.error.MachineError.TheVariants as machine
 use Rattle.clk_machine.specs.Plan.{Plan}
-use Rattle.clk_machine.specs.Ranges.{is_between, range_tests}
+use Rattle.clk_machine.specs.Ranges.{range_tests}
 use Rattle.clk_file.specs.declared.error.TableError.{TableError}
 use Rattle.clk_file.specs.declared.error.TableError.TheVariants.{Key, Value, Word, Cpu, Tickets}
 use Rattle.clk_file.specs.declared.error.FileError.{FileError}
 use Rattle.clk_file.specs.declared.error.FileError.TheVariants as file
 use Rattle.clk_file.specs.Document.{document}
-use Rattle.clk_file.specs.Keys.{Test, value_at, integer_or}
 use Rattle.clk_file.specs.Shape.{shape_tests}
 use Rattle.clk_file.specs.Described.{plan_in}
-
--- the one version that is read
-abbrev pub version_test : Members → Test
-version_test t = unless (is_between 1 1 (integer_or (pos 0) (codes "version") t)) (value_at 1 0 0)
 
 -- the refusal of a machine's numbers, as that of the table
 abbrev pub of_machine : MachineError → TableError
@@ -25,9 +20,9 @@ of_machine (machine.Value place) = Value place
 of_machine (machine.Cpu place) = Cpu place
 of_machine (machine.Tickets needed) = Tickets needed
 
--- the first failing test of a table: its shape, then the range of its version, then those of the machine's numbers
+-- the first failing test of a table: its shape, then the ranges of the machine's numbers
 abbrev pub refusal_in : Members → Option TableError
-refusal_in t = first (first (shape_tests t) ∷ version_test t ∷ option_map of_machine (first (range_tests (plan_in t))) ∷ [])
+refusal_in t = first (first (shape_tests t) ∷ option_map of_machine (first (range_tests (plan_in t))) ∷ [])
 
 -- the refusal of a table, as that of the file
 abbrev pub of_table : TableError → FileError

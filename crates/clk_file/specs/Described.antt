@@ -11,7 +11,7 @@ use Rattle.clk_file.specs.declared.words.Thread.{Thread}
 use Rattle.clk_file.specs.declared.words.Thread.TheVariants.{Cpu, Reader}
 use Rattle.clk_file.specs.Words.{word_in}
 use Rattle.clk_file.specs.Keys.{found, integer_or, flag_or, items_at, tables_at}
-use Rattle.clk_file.specs.Shape.{jump_of, is_own}
+use Rattle.clk_file.specs.Shape.{jump_of, is_own, version_in}
 
 abbrev pub jumps_in : Members → List JumpPlan
 jumps_in t = filter_map jump_of (items_at (codes "jumps") t)
@@ -37,6 +37,7 @@ abbrev pub cpu_in : ℤ → Members → CpuPlan
 cpu_in nominal_khz t = record {
   khz = integer_or nominal_khz (codes "khz") t;
   offset = integer_or (pos 0) (codes "offset") t;
+  socket = integer_or (pos 0) (codes "socket") t;
   jumps = jumps_in t;
   script = script_in Cpu t;
 }
@@ -57,6 +58,7 @@ abbrev pub bring_up_in : Members → BringUpPart
 bring_up_in t = record {
   adjust = flag_or false (codes "adjust") t;
   timeout_us = integer_or (pos 0) (codes "timeout_us") t;
+  first_us = integer_or (integer_or (pos 0) (codes "timeout_us") t) (codes "first_us") t;
   turns = integer_or (pos 0) (codes "turns") t;
 }
 
@@ -102,6 +104,8 @@ bits_in t = integer_or (pos 64) (codes "bits") t
 
 abbrev pub plan_in : Members → Plan
 plan_in t = record {
+  version = version_in t;
+  base = integer_or (pos 0) (codes "base") t;
   cpus = integer_or (pos 0) (codes "cpus") t;
   step = integer_or (pos 0) (codes "step") t;
   tick = integer_or (pos 1000000) (codes "tick") t;

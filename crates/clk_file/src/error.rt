@@ -1,3 +1,4 @@
+//! Why a file, or its table, is no machine.
 use clk_machine::{MachineError, Place};
 use std::alloc::AllocError;
 use thiserror::Error;
@@ -20,7 +21,7 @@ pub enum FileError {
     /// The CPU that is named here is none of the machine's.
     #[error("no such CPU")]
     Cpu(Place),
-    /// The run needs so many tickets, more than 2^24.
+    /// The run needs so many tickets, more than 2^24, or in version 2 more than 2^26.
     #[error("too many tickets")]
     Tickets { needed: u64 },
     /// There was no memory to tell.
@@ -39,7 +40,7 @@ pub enum TableError {
     Word(Place),
     /// The CPU that is named here is none of the machine's.
     Cpu(Place),
-    /// The run needs so many tickets, more than 2^24.
+    /// The run needs so many tickets, more than 2^24, or in version 2 more than 2^26.
     Tickets { needed: u64 },
 }
 

@@ -1,5 +1,5 @@
 //! The items of scripts and of lists of jumps.
-ghost use Rattle.std.specs.Prelude.{◌≡◌, ◌≤◌, ◌<◌, ◌^◌, map, option_map, option_and_then, length, IfOk, OnOk};
+ghost use Rattle.std.specs.Prelude.{◌≡◌, ◌<◌, ◌^◌, map, option_map, option_and_then, length, IfOk, OnOk};
 ghost use Rattle.std.specs.Result.{result_ok, result_err};
 ghost use Rattle.toml.specs.Data.{as_str};
 ghost use Rattle.toml.specs.View.{view, table_view};
@@ -14,7 +14,7 @@ ghost use Rattle.clk_file.specs.Parts.{jumps_tests, words_tests, script_tests};
 use crate::error::TableError;
 use crate::keys::{array_or_empty, integer_or, refuse, value_at};
 use crate::words::{Thread, word_in};
-use clk_machine::{Jump, Place, Script, Word};
+use clk_machine::{Jump, Place, Row, Script, Word};
 use clk_num::List;
 use std::alloc::{AllocError, Global};
 use toml::{Table, Value};
@@ -48,7 +48,7 @@ fn jump_of(value: &Value) -> Option<Jump>
 pub(crate) fn jumps_of(
     alloc: Global,
     table: &Table,
-    row: u32,
+    row: Row,
     entry: u32,
     refusal: &mut Option<TableError>,
 ) -> Result<List<Jump>, AllocError>
@@ -70,10 +70,21 @@ pub(crate) fn jumps_of(
 
 /// The script word that an item is, or why it is none.
 #[tactic(auto, unfolding(crate::specs::Shape::word_test))]
-fn word_at(thread: Thread, value: &Value, place: Place) -> Result<Word, TableError>
-    ensures test { result_err result ≡ word_test thread place.row place.entry place.item (view value.now) }
+fn word_at(
+    thread: Thread,
+    value: &Value,
+    row: Row,
+    entry: u32,
+    item: u32,
+) -> Result<Word, TableError>
+    ensures test { result_err result ≡ word_test thread row entry item (view value.now) }
     ensures value { result_ok result ≡ option_and_then (word_of_text thread) (as_str (view value.now)) }
 {
+    let place = Place {
+        row: row.number(),
+        entry,
+        item,
+    };
     let Some(text) = value.as_str() else {
         return Err(TableError::Value(place));
     };
@@ -88,7 +99,7 @@ fn words_of(
     alloc: Global,
     table: &Table,
     thread: Thread,
-    row: u32,
+    row: Row,
     entry: u32,
     refusal: &mut Option<TableError>,
 ) -> Result<List<Word>, AllocError>
@@ -100,8 +111,7 @@ fn words_of(
     check_length(values)?;
     let mut words = List::with_room(alloc, values.len())?;
     for (i, value) in values.iter().enumerate() {
-        let item = i as u32 + 1;
-        match word_at(thread, value, Place { row, entry, item }) {
+        match word_at(thread, value, row, entry, i as u32 + 1) {
             Ok(word) => words.push(word),
             Err(error) => refuse(refusal, error),
         }
@@ -109,21 +119,24 @@ fn words_of(
     Ok(words)
 }
 
-/// A script, whose row follows that of its repeat.
+/// A script, by the rows of its repeat and of its words.
 pub(crate) fn script_of(
     alloc: Global,
     table: &Table,
     thread: Thread,
-    row: u32,
+    repeat: Row,
+    row: Row,
     entry: u32,
     refusal: &mut Option<TableError>,
 ) -> Result<Script, AllocError>
-    requires { row ≤ 43 }
-    ensures test { OnOk result (refusal.new ≡ first_from refusal.old (script_tests thread row entry (table_view table.now))) }
+    ensures test { OnOk result (refusal.new ≡ first_from refusal.old (script_tests thread repeat row entry (table_view table.now))) }
     ensures value { IfOk result (λ s. script_plan s ≡ script_in thread (table_view table.now)) }
     ensures short { IfOk result (λ s. IsShort s.words.items) }
 {
-    let repeat = integer_or(table, "repeat", 1, row, entry, refusal);
-    let words = words_of(alloc, table, thread, row + 1, entry, refusal)?;
-    Ok(Script { repeat, words })
+    let times = integer_or(table, "repeat", 1, repeat, entry, refusal);
+    let words = words_of(alloc, table, thread, row, entry, refusal)?;
+    Ok(Script {
+        repeat: times,
+        words,
+    })
 }

@@ -1,14 +1,22 @@
 //! The tests of a table's keys. Each keeps the first refusal, so that a later one changes nothing, and gives the value, or
 //! what stands for it where there is none.
-ghost use Rattle.std.specs.Prelude.{◌≡◌, ◌≤◌, pos, false, map, option_map, Some};
+ghost use Rattle.std.specs.Prelude.{◌≡◌, ◌≤◌, pos, false, map, option_map, Some, if◌then◌else◌};
 ghost use Rattle.std.specs.Option.{option_or};
 ghost use Rattle.toml.specs.Data.{get_member, as_str, as_integer, as_bool, as_array, as_table};
 ghost use Rattle.toml.specs.View.{view, table_view};
+ghost use Rattle.clk_machine.specs.Limits.{is_second};
+ghost use Rattle.clk_file.specs.Shape.{version_in};
 ghost use Rattle.clk_file.specs.Keys.{has_only, known_keys, required, optional, found, integer_or, flag_or, items_at, key_at as key_fault, value_at as value_fault};
 
 use crate::error::TableError;
-use clk_machine::Place;
+use clk_machine::{Place, Row};
 use toml::{Table, Value};
+
+/// The number of the top table, which has no row.
+pub(crate) const TOP_TABLE: u32 = 0;
+
+/// The later version of the format, which has more keys.
+const SECOND: i64 = 2;
 
 /// Keeps the first refusal.
 pub(crate) fn refuse(refusal: &mut Option<TableError>, error: TableError)
@@ -20,21 +28,25 @@ pub(crate) fn refuse(refusal: &mut Option<TableError>, error: TableError)
 }
 
 /// The refusal of a key.
-fn key_at(row: u32, entry: u32) -> TableError
+fn key_at(row: Row, entry: u32) -> TableError
     ensures { result ≡ key_fault row entry }
 {
     TableError::Key(Place {
-        row,
+        row: row.number(),
         entry,
         item: 0,
     })
 }
 
 /// The refusal of a value.
-pub(crate) fn value_at(row: u32, entry: u32, item: u32) -> TableError
+pub(crate) fn value_at(row: Row, entry: u32, item: u32) -> TableError
     ensures { result ≡ value_fault row entry item }
 {
-    TableError::Value(Place { row, entry, item })
+    TableError::Value(Place {
+        row: row.number(),
+        entry,
+        item,
+    })
 }
 
 /// The value at a key.
@@ -51,20 +63,44 @@ fn has_only(table: &Table, names: &[&str]) -> bool
     table.keys().all(|key| names.contains(&key.as_str()))
 }
 
-/// The table at this row has no other keys.
+/// A table has no other keys. `number` is that of its row, or [`TOP_TABLE`].
 pub(crate) fn known_keys(
     table: &Table,
     names: &[&str],
-    row: u32,
+    number: u32,
     entry: u32,
     refusal: &mut Option<TableError>,
 )
-    requires { row ≤ 43 }
-    ensures { refusal.new ≡ option_or refusal.old (known_keys row entry (map (λ n. n.now) names.now) (table_view table.now)) }
+    requires { number ≤ 46 }
+    ensures { refusal.new ≡ option_or refusal.old (known_keys number entry (map (λ n. n.now) names.now) (table_view table.now)) }
 {
     if !has_only(table, names) {
-        refuse(refusal, key_at(row + 100, entry));
+        let place = Place {
+            row: number + 100,
+            entry,
+            item: 0,
+        };
+        refuse(refusal, TableError::Key(place));
     }
+}
+
+/// The version that a file names: 0 where it names none. It is not tested here.
+pub(crate) fn version_of(top: &Table) -> i64
+    ensures { result ≡ version_in (table_view top.now) }
+{
+    let mut untold = None;
+    integer_or(top, "version", 0, Row::Version, 0, &mut untold)
+}
+
+/// The keys of a table, by the version of its file.
+pub(crate) fn by_version<'a>(
+    version: i64,
+    first: &'a [&'a str],
+    second: &'a [&'a str],
+) -> &'a [&'a str]
+    ensures { map (λ n. n.now) result.now ≡ (if is_second version then map (λ n. n.now) second.now else map (λ n. n.now) first.now) }
+{
+    if version == SECOND { second } else { first }
 }
 
 /// An integer that must be there.
@@ -72,7 +108,7 @@ pub(crate) fn known_keys(
 pub(crate) fn integer(
     table: &Table,
     key: &str,
-    row: u32,
+    row: Row,
     entry: u32,
     refusal: &mut Option<TableError>,
 ) -> i64
@@ -96,7 +132,7 @@ pub(crate) fn integer_or(
     table: &Table,
     key: &str,
     default: i64,
-    row: u32,
+    row: Row,
     entry: u32,
     refusal: &mut Option<TableError>,
 ) -> i64
@@ -118,7 +154,7 @@ pub(crate) fn integer_or(
 pub(crate) fn flag(
     table: &Table,
     key: &str,
-    row: u32,
+    row: Row,
     entry: u32,
     refusal: &mut Option<TableError>,
 ) -> bool
@@ -141,7 +177,7 @@ pub(crate) fn flag(
 pub(crate) fn flag_or_false(
     table: &Table,
     key: &str,
-    row: u32,
+    row: Row,
     entry: u32,
     refusal: &mut Option<TableError>,
 ) -> bool
@@ -163,7 +199,7 @@ pub(crate) fn flag_or_false(
 pub(crate) fn string(
     table: &Table,
     key: &str,
-    row: u32,
+    row: Row,
     entry: u32,
     refusal: &mut Option<TableError>,
 )
@@ -181,7 +217,7 @@ pub(crate) fn string(
 pub(crate) fn table<'a>(
     table: &'a Table,
     key: &str,
-    row: u32,
+    row: Row,
     refusal: &mut Option<TableError>,
 ) -> Option<&'a Table>
     ensures test { refusal.new ≡ option_or refusal.old (required as_table row 0 key.now (table_view table.now)) }
@@ -203,7 +239,7 @@ pub(crate) fn table<'a>(
 pub(crate) fn table_if_there<'a>(
     table: &'a Table,
     key: &str,
-    row: u32,
+    row: Row,
     refusal: &mut Option<TableError>,
 ) -> Option<&'a Table>
     ensures test { refusal.new ≡ option_or refusal.old (optional as_table row 0 key.now (table_view table.now)) }
@@ -221,7 +257,7 @@ pub(crate) fn table_if_there<'a>(
 pub(crate) fn array<'a>(
     table: &'a Table,
     key: &str,
-    row: u32,
+    row: Row,
     refusal: &mut Option<TableError>,
 ) -> &'a [Value]
     ensures test { refusal.new ≡ option_or refusal.old (required as_array row 0 key.now (table_view table.now)) }
@@ -243,7 +279,7 @@ pub(crate) fn array<'a>(
 pub(crate) fn array_or_empty<'a>(
     table: &'a Table,
     key: &str,
-    row: u32,
+    row: Row,
     entry: u32,
     refusal: &mut Option<TableError>,
 ) -> &'a [Value]

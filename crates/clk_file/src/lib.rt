@@ -1,6 +1,6 @@
 //! The machine file: which machine its bytes are, or why they are none.
 //!
-//! [`read_machine`] reads TOML of the format's version 1. It answers exactly *acceptance*, which stands in `specs/`: the
+//! [`read_machine`] reads TOML of the format's versions 1 and 2. It answers exactly *acceptance*, which stands in `specs/`: the
 //! machine that the table describes, its defaults filled in, or the first failing test of a fixed list: first the shape of
 //! the table, row by row, then the ranges of its numbers, then the tickets that a run needs. A refusal names the row, the
 //! entry and the item. Only want of memory is left open. [`words_are_spelled`] carries the law of script words.

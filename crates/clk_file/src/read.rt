@@ -1,3 +1,4 @@
+//! From a file's bytes to its machine.
 ghost use Rattle.std.specs.Prelude.{◌≡◌, ◌≤◌, length, IfOk, IfErr, OnOk};
 ghost use Rattle.toml.specs.View.{table_view};
 ghost use Rattle.clk_base.specs.First.{first};
@@ -6,7 +7,8 @@ ghost use Rattle.clk_machine.specs.Short.{IsWellFormed};
 ghost use Rattle.clk_file.specs.Document.{document};
 ghost use Rattle.clk_file.specs.Described.{plan_in};
 ghost use Rattle.clk_file.specs.Acceptance.{accepted, IsMemory};
-ghost use Rattle.clk_file.specs.Parts.{form_tests, IsRefusedForm};
+ghost use Rattle.clk_file.specs.Shape.{shape_tests};
+ghost use Rattle.clk_file.specs.Parts.{IsRefusedShape};
 
 use crate::error::{FileError, TableError};
 use crate::parts::parts_of;
@@ -44,13 +46,12 @@ fn table_of(alloc: Global, bytes: &[u8]) -> Result<Table, FileError>
     }
 }
 
-/// The parts of the machine that a table describes, where its shape and its version pass. The ranges of the parts are not
-/// tested yet.
+/// The parts of the machine that a table describes, where its shape passes. The ranges of the parts are not tested yet.
 fn formed(alloc: Global, table: &Table) -> Result<Parts, FileError>
     ensures value { IfOk result (λ p. plan_of p ≡ plan_in (table_view table.now)) }
     ensures well_formed { IfOk result (λ p. IsWellFormed (plan_of p)) }
-    ensures passed { OnOk result (first (form_tests (table_view table.now)) ≡ None) }
-    ensures refused { IfErr result (λ e. ¬ IsMemory e → IsRefusedForm (table_view table.now) e) }
+    ensures passed { OnOk result (first (shape_tests (table_view table.now)) ≡ None) }
+    ensures refused { IfErr result (λ e. ¬ IsMemory e → IsRefusedShape (table_view table.now) e) }
 {
     let mut refusal = None;
     let parts = parts_of(alloc, table, &mut refusal).map_err(FileError::Memory)?;

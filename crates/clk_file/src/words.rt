@@ -1,3 +1,4 @@
+//! The words of scripts.
 ghost use Rattle.std.specs.Prelude.{◌≡◌};
 ghost use Rattle.clk_file.specs.Words.{is_number, number_of, number_after, word_of, word_in};
 

@@ -66,15 +66,15 @@ delta_few bits now last n width a b fits =
     (cases_lt now last))
 
 -- so the cycles since a record are few, and their ns
-pub added_few : (m : Plan) (now last : ℕ) → IsWithinLimits m → now ≤ 41 * 2 ^ 42 → last ≤ 41 * 2 ^ 42
+pub added_few : (m : Plan) (now last : ℕ) → IsWithinLimits m → now ≤ 83 * 2 ^ 41 → last ≤ 83 * 2 ^ 41
     → convert (masked_delta now last (count_of m.bits)) (sched_rate m) ≤ 41 * 2 ^ 52
 added_few m now last l a b =
     let width = width_few m.bits l.ranges.bits in
-    let few = delta_few (count_of m.bits) now last (41 * 2 ^ 42) width.1 a b (omega arith) in
+    let few = delta_few (count_of m.bits) now last (83 * 2 ^ 41) width.1 a b (omega arith) in
     omega (arith, convert_small m (masked_delta now last (count_of m.bits)) l.ranges, few)
 
 -- the conversion of the cycles since a record, as the code finds it
-pub is_added : (m : Plan) (now last bits cycles : ℕ) (rate : Rate) → IsWithinLimits m → now ≤ 41 * 2 ^ 42 → last ≤ 41 * 2 ^ 42
+pub is_added : (m : Plan) (now last bits cycles : ℕ) (rate : Rate) → IsWithinLimits m → now ≤ 83 * 2 ^ 41 → last ≤ 83 * 2 ^ 41
     → pos bits ≡ m.bits → cycles ≡ masked_delta now last bits → rate ≡ sched_rate m
     → (convert cycles rate ≡ convert (masked_delta now last (count_of m.bits)) (sched_rate m)) × (convert cycles rate ≤ 41 * 2 ^ 52)
 is_added m now last bits cycles rate l a b width delta same =

@@ -155,7 +155,7 @@ record IsGood (n : ℕ) (all : List Published) (words : List ℕ) : Type 0 where
   small : (i : ℕ) (p : Published) → get_elem? all i ≡ some p → IsSmallIn all p
 
 -- no other seat knows of the idle copy
-other_knows : (m n : ℕ) (all more : List Published) (us ws : List ℕ) (u : Knows) → m ≤ n → IsPrefix all more → Known m all us u → (u.owner ≡ true → ⊥)
+pub other_knows : (m n : ℕ) (all more : List Published) (us ws : List ℕ) (u : Knows) → m ≤ n → IsPrefix all more → Known m all us u → (u.owner ≡ true → ⊥)
     → Known n more ws u
 other_knows m n all more us ws u later grown k reader = record {
   begun = k.begun;
@@ -283,7 +283,7 @@ pub stands_none : (ws : List ℕ) (j : ℕ) → Stands ws j []
 stands_none ws j k low = absurd (omega arith)
 
 -- record 0 is the first of the records and of all that go on from them
-pub small_by : (records updates : List Published) (zero p : Published) → IsPrefix records (zero ∷ updates) → p.cyc ≤ 41 * 2 ^ 42
+pub small_by : (records updates : List Published) (zero p : Published) → IsPrefix records (zero ∷ updates) → p.cyc ≤ 83 * 2 ^ 41
     → IsFrom0To (46 * 2 ^ 52) (above p.ns zero.ns) → IsSmallIn records p
 small_by records updates zero p begins cyc ns = record {
   cyc = cyc;

@@ -6,3 +6,5 @@ pub mod Converting
 pub mod Updating
 pub mod Reading
 pub mod Staying
+pub mod CellKeeping
+pub mod CellReading

@@ -29,7 +29,7 @@ first_known r updates ws few = record {
   owner = λ _. record { seen = refl; records = refl; left = omega arith; wrote = stands_none ws (idle 0) };
 }
 
-alone : {A : Type 0} (P : ℕ → A → Type 0) (a : A) → P 0 a → (j : ℕ) (b : A) → get_elem? (a ∷ []) j ≡ some b → P j b
+pub alone : {A : Type 0} (P : ℕ → A → Type 0) (a : A) → P 0 a → (j : ℕ) (b : A) → get_elem? (a ∷ []) j ≡ some b → P j b
 alone P a here zero b e = subst (P 0) (some-injective a b e) here
 alone P a here (suc j) b e = absurd (some-ne-none b (sym e))
 
@@ -51,7 +51,7 @@ starts r updates word few ns small =
 
 -- ---- splits
 
-reader_known : (n : ℕ) (all : List Published) (ws : List ℕ) (v : Knows) → Known n all ws v → Known n all ws (knows_reader v)
+pub reader_known : (n : ℕ) (all : List Published) (ws : List ℕ) (v : Knows) → Known n all ws v → Known n all ws (knows_reader v)
 reader_known n all ws v k = record {
   begun = k.begun;
   seen = k.seen;
@@ -89,17 +89,17 @@ splits id v s l at =
 -- ---- joins
 
 -- what the choice of a join tells of the view that stays and the other
-record IsChosen (v w stays other : Knows) : Type 0 where
-  right : other.owner ≡ true → (stays.owner ≡ true) × ((v.owner && w.owner) ≡ true)
-  longer : stays.owner ≡ false → length other.records ≤ length stays.records
-  sum : v.left + w.left ≡ stays.left + other.left
-  one_has : (v.owner || w.owner) ≡ true → stays.owner ≡ true
-  has : stays.owner ≡ true → (v.owner || w.owner) ≡ true
-  none_has : (v.owner || w.owner) ≡ false → (stays.owner ≡ false) × (other.owner ≡ false)
-  lengths : max (length v.records) (length w.records) ≡ max (length stays.records) (length other.records)
-  each : IsPrefix other.records stays.records → IsPrefix v.records stays.records × IsPrefix w.records stays.records
-  first_owner : v.owner ≡ true → stays.records ≡ v.records
-  second_owner : w.owner ≡ true → (v.owner && w.owner) ≡ false → stays.records ≡ w.records
+pub record IsChosen (v w stays other : Knows) : Type 0 where
+  pub right : other.owner ≡ true → (stays.owner ≡ true) × ((v.owner && w.owner) ≡ true)
+  pub longer : stays.owner ≡ false → length other.records ≤ length stays.records
+  pub sum : v.left + w.left ≡ stays.left + other.left
+  pub one_has : (v.owner || w.owner) ≡ true → stays.owner ≡ true
+  pub has : stays.owner ≡ true → (v.owner || w.owner) ≡ true
+  pub none_has : (v.owner || w.owner) ≡ false → (stays.owner ≡ false) × (other.owner ≡ false)
+  pub lengths : max (length v.records) (length w.records) ≡ max (length stays.records) (length other.records)
+  pub each : IsPrefix other.records stays.records → IsPrefix v.records stays.records × IsPrefix w.records stays.records
+  pub first_owner : v.owner ≡ true → stays.records ≡ v.records
+  pub second_owner : w.owner ≡ true → (v.owner && w.owner) ≡ false → stays.records ≡ w.records
 
 record IsFirst (a b test : Bool) : Type 0 where
   right : b ≡ true → (a ≡ true) × ((a && b) ≡ true)
@@ -108,7 +108,7 @@ record IsFirst (a b test : Bool) : Type 0 where
   has : a ≡ true → (a || b) ≡ true
   none_has : (a || b) ≡ false → (a ≡ false) × (b ≡ false)
 
-no_true : false ≡ true → ⊥
+pub no_true : false ≡ true → ⊥
 no_true e = true_not_false (sym e)
 
 is_first : (a b test : Bool) → (a || (not b && test)) ≡ true → IsFirst a b test
@@ -146,7 +146,7 @@ is_second false b test e = record { reader = refl; failed = failed b e; one_has 
 not_le : (m n : ℕ) → leb m n ≡ false → n ≤ m
 not_le m n e = grind (arith, nat_tests)
 
-first_chosen : (v w : Knows) → first_stays v w ≡ true → IsChosen v w v w
+pub first_chosen : (v w : Knows) → first_stays v w ≡ true → IsChosen v w v w
 first_chosen v w e =
     let t = is_first v.owner w.owner (leb (length w.records) (length v.records)) e in
     record {
@@ -162,7 +162,7 @@ first_chosen v w e =
       second_owner = λ o both. absurd (true_not_false (sym (t.right o).1 ∙ both));
     }
 
-second_chosen : (v w : Knows) → first_stays v w ≡ false → IsChosen v w w v
+pub second_chosen : (v w : Knows) → first_stays v w ≡ false → IsChosen v w w v
 second_chosen v w e =
     let t = is_second v.owner w.owner (leb (length w.records) (length v.records)) e in
     record {
@@ -193,7 +193,7 @@ and_false true false apart = refl
 and_false false b apart = refl
 
 -- what the rule says of the view that a join makes
-both_known : (n : ℕ) (all : List Published) (ws : List ℕ) (v w : Knows) → Known n all ws v → Known n all ws w → (v.owner ≡ true → w.owner ≡ true → ⊥)
+pub both_known : (n : ℕ) (all : List Published) (ws : List ℕ) (v w : Knows) → Known n all ws v → Known n all ws w → (v.owner ≡ true → w.owner ≡ true → ⊥)
     → Known n all ws (knows_both v w)
 both_known n all ws v w kv kw apart = either_way (Known n all ws) v w made
   where
@@ -215,7 +215,7 @@ both_known n all ws v w kv kw apart = either_way (Known n all ws) v w made
           owner = λ o. let x = ks.owner (c.one_has o) in record { seen = x.seen; records = x.records; left = omega (arith, x.left, c.sum, nothing); wrote = x.wrote };
         }
 
-nothing_known : (n : ℕ) (all : List Published) (ws : List ℕ) → Known n all ws knows_nothing
+pub nothing_known : (n : ℕ) (all : List Published) (ws : List ℕ) → Known n all ws knows_nothing
 nothing_known n all ws = record {
   begun = omega arith;
   seen = omega arith;
@@ -227,11 +227,11 @@ nothing_known n all ws = record {
 }
 
 -- the seat that has the owner's right after a join of two
-record HasRight (views : List Knows) : Type 0 where
-  seat : ℕ
-  alone : (j : ℕ) (u : Knows) → get_elem? views j ≡ some u → u.owner ≡ true → j ≡ seat
+pub record HasRight (views : List Knows) : Type 0 where
+  pub seat : ℕ
+  pub alone : (j : ℕ) (u : Knows) → get_elem? views j ≡ some u → u.owner ≡ true → j ≡ seat
 
-or_cases : (a b : Bool) → (a || b) ≡ true → (a ≡ true) ⊎ (b ≡ true)
+pub or_cases : (a b : Bool) → (a || b) ≡ true → (a ≡ true) ⊎ (b ≡ true)
 or_cases true b e = inl refl
 or_cases false b e = inr e
 
@@ -245,7 +245,7 @@ no_other id other owner v w views at there one e j u away far f o =
     (λ (x : w.owner ≡ true). far (one j u f o ∙ sym (one other w there x)))
     (or_cases v.owner w.owner e)
 
-right_after : (id other owner : ℕ) (v w : Knows) (views : List Knows) → get_elem? views id ≡ some v → get_elem? views other ≡ some w
+pub right_after : (id other owner : ℕ) (v w : Knows) (views : List Knows) → get_elem? views id ≡ some v → get_elem? views other ≡ some w
     → ((j : ℕ) (u : Knows) → get_elem? views j ≡ some u → u.owner ≡ true → j ≡ owner) → (test : Bool) → (v.owner || w.owner) ≡ test
     → HasRight (set (set views id (knows_both v w)) other knows_nothing)
 right_after id other owner v w views at there one true e =

@@ -16,6 +16,7 @@ use Rattle.clk_num.specs.Range.{IsFrom0To, IsNear}
 use Rattle.clk_num.specs.Wrapping.{above}
 use Rattle.clk_num.proofs.Wraps.{wrapped}
 use Rattle.clk_machine.specs.Plan.{Plan, count_of, cpu_count}
+use Rattle.clk_machine.specs.Limits.{most_tickets}
 use Rattle.clk_machine.specs.Time.{counter_at}
 use Rattle.clk_machine.specs.Records.{above_base, record_zero, raw_by, IsNextRecord, AreNextRecords, AreRecords}
 use Rattle.clk_machine.specs.Laws.{IsAdjusted, AreInOrder}
@@ -25,7 +26,7 @@ use Rattle.clk_latch.specs.declared.rule.Knows.{Knows}
 use Rattle.atomic_table.specs.Table.{Me}
 use Rattle.atomic_table.specs.declared.shared.Seat.{Seat}
 use Rattle.clk_ticket.specs.Time.{Time, after_draw}
-use Rattle.clk_latch.specs.Epoch.{Place}
+use Rattle.clk_latch.specs.Epoch.{Epoch, Place}
 use Rattle.clk_latch.specs.Calls.{AreDrawn, last_of, IsRecordZero, Updates}
 use Rattle.clk_latch.specs.Kept.{IsSmallIn, knows_first, knows_published, knows_settled}
 use Rattle.clk_latch.specs.Seated.{AreUpdatesInOrder, IsOwner, IsSeated, place_of, epoch_of}
@@ -72,7 +73,7 @@ drawn_push bs (r ∷ updates) p drawn =
     (λ q some. drawn_more q.ticket bs (record { first = p.ticket; count = 1 }) some) updates drawn)
     (drawn_now p.ticket bs)
 
-order_more : (n : ℕ) (ps : List Published) (p : Published) → AreInOrder n ps → All (λ (q : Published). q.ticket < p.ticket) ps → n ≤ p.ticket → p.ticket < 2 ^ 24
+order_more : (n : ℕ) (ps : List Published) (p : Published) → AreInOrder n ps → All (λ (q : Published). q.ticket < p.ticket) ps → n ≤ p.ticket → p.ticket < most_tickets
     → AreInOrder n (ps ++ p ∷ [])
 order_more n [] p order below low high = (low, high, tt)
 order_more n (q ∷ ps) p order below low high =
@@ -81,7 +82,7 @@ order_more n (q ∷ ps) p order below low high =
     (order.0, order.1, order_more q.ticket ps p order.2 tail (omega (arith, head)) high)
 
 pub order_push : (n : ℕ) (bs : List Block) (records : List Published) (p : Published) → AreUpdatesInOrder records → AreDrawn bs records → AllEndBy n bs → n ≤ p.ticket
-    → p.ticket < 2 ^ 24 → AreUpdatesInOrder (records ++ p ∷ [])
+    → p.ticket < most_tickets → AreUpdatesInOrder (records ++ p ∷ [])
 order_push n bs [] p order drawn ends later bound = tt
 order_push n bs (r ∷ updates) p order drawn ends later bound =
     order_more 0 updates p order
@@ -125,13 +126,13 @@ in_order m records updates is order =
     subst (AreInOrder 0) (sym is) (omega arith, omega arith, subst AreUpdatesInOrder is order)
 
 pub next_small : (m : Plan) (cpu : ℕ) (adjust : ℤ) (records : List Published) (p : Published) → IsAdjusted m cpu adjust → AreRecords m cpu adjust (records ++ p ∷ [])
-    → AreUpdatesInOrder (records ++ p ∷ []) → p.ticket < 2 ^ 24 → p.cyc ≡ counter_at m cpu adjust p.ticket → IsSmallIn records p
+    → AreUpdatesInOrder (records ++ p ∷ []) → p.ticket < most_tickets → p.cyc ≡ counter_at m cpu adjust p.ticket → IsSmallIn records p
 next_small m cpu adjust records p a are order bound shows =
     let each = records_are_small m cpu adjust (records ++ p ∷ []) a are (in_order m (records ++ p ∷ []) are.updates are.all order) in
     let there : length records < length (records ++ p ∷ []) = omega (arith, length-append records (p ∷ [])) in
     small_by records are.updates (record_zero m) p
     (subst (IsPrefix records) are.all (prefix_more records (p ∷ [])))
-    (subst (λ n. n ≤ 41 * 2 ^ 42) (sym shows) (counters_are_small m cpu adjust p.ticket a bound))
+    (subst (λ n. n ≤ 83 * 2 ^ 41) (sym shows) (counters_are_small m cpu adjust p.ticket a bound))
     (subst (λ (x : Published). IsFrom0To (46 * 2 ^ 52) (above_base m x.ns)) (get_or-append_seam records p [] p) (each (length records) p there))
 
 -- ---- the owner's seat
@@ -185,7 +186,7 @@ zero_small r z =
     let there : 0 < cpu_count m = omega (arith, few.1, ap count_of each) in
     small_by (r ∷ []) [] r r
     (prefix_self (r ∷ []))
-    (subst (λ n. n ≤ 41 * 2 ^ 42) (sym z.cyc) (counters_are_small m 0 (pos 0) 0 (record { limits = z.limits; there = there; near = near }) (omega arith)))
+    (subst (λ n. n ≤ 83 * 2 ^ 41) (sym z.cyc) (counters_are_small m 0 (pos 0) 0 (record { limits = z.limits; there = there; near = near }) (omega arith)))
     (none_above r.ns)
 
 -- ---- an update
@@ -199,7 +200,7 @@ pub record IsUpdate (m : Plan) (cpu : ℕ) (adjust : ℤ) (v : Knows) (p : Publi
   pub drawn : AreDrawn (bs ++ (record { first = p.ticket; count = 1 }) ∷ []) (v.records ++ p ∷ [])
 
 pub is_update : (m : Plan) (cpu : ℕ) (adjust : ℤ) (v : Knows) (current : Option Published) (last p : Published) (bs : List Block) (n : ℕ) → IsOwner current v → current ≡ Some last
-    → IsAdjusted m cpu adjust → AreRecords m cpu adjust v.records → AreDrawn bs v.records → AllEndBy n bs → n ≤ p.ticket → p.ticket < 2 ^ 24
+    → IsAdjusted m cpu adjust → AreRecords m cpu adjust v.records → AreDrawn bs v.records → AllEndBy n bs → n ≤ p.ticket → p.ticket < most_tickets
     → p.rec ≡ last.rec + 1 → p.cyc ≡ counter_at m cpu adjust p.ticket → p.ns ≡ raw_by m last p.cyc → IsUpdate m cpu adjust v p bs
 is_update m cpu adjust v current last p bs n o hand a are drawn ends later bound named shows time =
     let same : o.last ≡ last = some_same o.last last (sym o.hand ∙ hand) in
@@ -223,23 +224,32 @@ pub record IsMade (m : Plan) (cpu : ℕ) (adjust : ℤ) (s : Place) (current : O
   pub left : v.left ≡ s.epoch.left
   pub update : IsUpdate m cpu adjust v p bs
 
-pub is_made : (m : Plan) (cpu : ℕ) (adjust : ℤ) (s : Place) (seat : Seat (Unit {0}) Knows) (current : Option Published) (last : Published) (time : Time) (ticket cyc : ℕ) (ns : ℤ)
-    → place_of seat ≡ s → IsSeated current seat → s.epoch.owner ≡ true → current ≡ Some last → IsAdjusted m cpu adjust
-    → AreRecords m cpu adjust s.epoch.records → AreDrawn time.blocks s.epoch.records → AllEndBy time.seen time.blocks → time.seen ≤ ticket → ticket + 1 ≤ 2 ^ 24
+pub made_at : (m : Plan) (cpu : ℕ) (adjust : ℤ) (s : Place) (v : Knows) (current : Option Published) (last : Published) (time : Time) (ticket cyc : ℕ) (ns : ℤ)
+    → epoch_of v ≡ s.epoch → (v.owner ≡ true → IsOwner current v) → s.epoch.owner ≡ true → current ≡ Some last → IsAdjusted m cpu adjust
+    → AreRecords m cpu adjust s.epoch.records → AreDrawn time.blocks s.epoch.records → AllEndBy time.seen time.blocks → time.seen ≤ ticket → ticket + 1 ≤ most_tickets
     → cyc ≡ counter_at m cpu adjust ticket → ns ≡ raw_by m last cyc
-    → IsMade m cpu adjust s current seat.me.0 (record { rec = last.rec + 1; ticket = ticket; cyc = cyc; ns = to_z w64 (of_z w64 ns) }) time.blocks
-is_made m cpu adjust s seat current last time ticket cyc ns view seated right hand a are drawn ends later bound shows value =
-    let own : seat.me.0.owner ≡ true = ap (λ (x : Place). x.epoch.owner) view ∙ right in
-    let owner = seated.owner own in
-    let mine = subst (λ (x : Place). AreRecords m cpu adjust x.epoch.records) (sym view) are in
-    let among = subst (λ (x : Place). AreDrawn time.blocks x.epoch.records) (sym view) drawn in
+    → IsMade m cpu adjust s current v (record { rec = last.rec + 1; ticket = ticket; cyc = cyc; ns = to_z w64 (of_z w64 ns) }) time.blocks
+made_at m cpu adjust s v current last time ticket cyc ns view owns right hand a are drawn ends later bound shows value =
+    let own : v.owner ≡ true = ap (λ (x : Epoch). x.owner) view ∙ right in
+    let owner = owns own in
+    let mine = subst (λ (x : Epoch). AreRecords m cpu adjust x.records) (sym view) are in
+    let among = subst (λ (x : Epoch). AreDrawn time.blocks x.records) (sym view) drawn in
     record {
       own = own;
       owner = owner;
-      left = ap (λ (x : Place). x.epoch.left) view;
-      update = is_update m cpu adjust seat.me.0 current last (record { rec = last.rec + 1; ticket = ticket; cyc = cyc; ns = to_z w64 (of_z w64 ns) }) time.blocks time.seen
+      left = ap (λ (x : Epoch). x.left) view;
+      update = is_update m cpu adjust v current last (record { rec = last.rec + 1; ticket = ticket; cyc = cyc; ns = to_z w64 (of_z w64 ns) }) time.blocks time.seen
           owner hand a mine among ends later (omega (arith, bound)) refl shows (sum_stays ns _ value ∙ value);
     }
+
+-- of a seat over words
+pub is_made : (m : Plan) (cpu : ℕ) (adjust : ℤ) (s : Place) (seat : Seat (Unit {0}) Knows) (current : Option Published) (last : Published) (time : Time) (ticket cyc : ℕ) (ns : ℤ)
+    → place_of seat ≡ s → IsSeated current seat → s.epoch.owner ≡ true → current ≡ Some last → IsAdjusted m cpu adjust
+    → AreRecords m cpu adjust s.epoch.records → AreDrawn time.blocks s.epoch.records → AllEndBy time.seen time.blocks → time.seen ≤ ticket → ticket + 1 ≤ most_tickets
+    → cyc ≡ counter_at m cpu adjust ticket → ns ≡ raw_by m last cyc
+    → IsMade m cpu adjust s current seat.me.0 (record { rec = last.rec + 1; ticket = ticket; cyc = cyc; ns = to_z w64 (of_z w64 ns) }) time.blocks
+is_made m cpu adjust s seat current last time ticket cyc ns view seated =
+    made_at m cpu adjust s seat.me.0 current last time ticket cyc ns (ap (λ (x : Place). x.epoch) view) seated.owner
 
 -- what an update does to the seat
 pub updates : (m : Plan) (cpu : ℕ) (adjust : ℤ) (s : Place) (seat : Seat (Unit {0}) Knows) (p : Published) (bs : List Block) (after : Me (Unit {0}) Knows) → place_of seat ≡ s

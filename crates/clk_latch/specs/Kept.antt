@@ -35,7 +35,7 @@ Stands words i xs = (k : ℕ) → k < length xs → slice_index words (i + k) �
 
 -- a record's counter value is that of a machine within its limits, and so is how far its ns are above those of record 0
 pub record IsSmallIn (records : List Published) (p : Published) : Type 0 where
-  pub cyc : p.cyc ≤ 41 * 2 ^ 42
+  pub cyc : p.cyc ≤ 83 * 2 ^ 41
   pub ns : (zero : Published) → get_elem? records 0 ≡ some zero → IsFrom0To (46 * 2 ^ 52) (above p.ns zero.ns)
 
 -- what the owner knows of the words: it alone changes them

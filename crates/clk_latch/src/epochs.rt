@@ -1,3 +1,4 @@
+//! What the layers above see of a latch of any kind.
 ghost use Rattle.std.specs.Prelude.{◌≡◌, ◌<◌, ◌≤◌, true};
 ghost use Rattle.clk_num.specs.Range.{IsNear};
 ghost use Rattle.clk_machine.specs.Plan.{cpu_count};
@@ -19,8 +20,8 @@ pub trait Epochs {
     ghost epoch: { Self.Seat → Epoch };
 
     /// The time in ns, which wraps, by the current record, of a counter at the next ticket. The ticket is drawn before the
-    /// first turn, and later turns keep the counter's value. It returns because each further turn saw a greater sequence.
-    /// After `sched_clock` of Linux 6.1.
+    /// first turn, and later turns keep the counter's value. At a [`crate::Latch`] it returns because each further turn saw a
+    /// greater sequence. After `sched_clock` of Linux 6.1.
     fn read(
         &self,
         seat: &mut Self::Seat,

@@ -1,3 +1,4 @@
+//! The latch over words.
 ghost use Rattle.std.specs.Prelude.{◌≡◌, ◌≤◌, IfOk};
 ghost use Rattle.clk_latch.specs.Epoch.{owner_of};
 ghost use Rattle.clk_latch.specs.Calls.{IsRecordZero};

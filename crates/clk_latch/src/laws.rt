@@ -1,3 +1,4 @@
+//! Laws of what seats have seen and drawn.
 ghost use Rattle.clk_latch.specs.Laws.{ReadingsStayRight, DrawnTicketsStay};
 
 /// A reading that is right over the records that its seat had seen is right over all lists that go on from them: so over

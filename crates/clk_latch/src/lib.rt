@@ -12,10 +12,14 @@
 //!
 //! How it works: [`Epochs`] is what the layers above see of any latch. [`Latch`] is the one over words, whose rule
 //! (`specs/Kept.antt`) ties the words to what all seats know; each step keeps it. A contract sees what a seat has
-//! as an `Epoch` (`specs/Epoch.antt`), and each call as what it does to that (`specs/Calls.antt`).
+//! as an `Epoch` (`specs/Epoch.antt`), and each call as what it does to that (`specs/Calls.antt`). [`CellLatch`] keeps the
+//! record in one cell of `crossbeam_utils` (`specs/CellKept.antt`), for threads whose readings may wait; it promises the same.
 //! [`readings_stay_right`] and [`drawn_tickets_stay`] do nothing: they carry laws of those.
 #![tactic(auto)]
 
+mod cell;
+mod cell_rule;
+mod cell_seat;
 mod convert;
 mod copies;
 mod epochs;
@@ -27,6 +31,8 @@ mod seat;
 mod tests;
 mod turn;
 
+pub use cell::CellLatch;
+pub use cell_seat::CellSeat;
 pub use epochs::Epochs;
 pub use latch::Latch;
 pub use laws::{drawn_tickets_stay, readings_stay_right};

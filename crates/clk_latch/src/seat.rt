@@ -1,3 +1,4 @@
+//! A thread's seat at the latch over words.
 use crate::rule::Knows;
 use atomic_table::Seat;
 use clk_machine::Published;

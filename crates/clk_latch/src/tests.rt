@@ -1,3 +1,4 @@
+//! Callers of both latches: readers on threads beside the owner, and one script whose answers are known.
 ghost use Rattle.std.specs.Prelude.{◌≡◌, ◌+◌, ◌*◌, ◌^◌, ◌<◌, ◌≤◌, true, pos, IfOk, All, [], ◌∷◌, vec_len, length};
 ghost use Rattle.clk_ticket.specs.Time.{fresh, share_of};
 ghost use Rattle.clk_machine.specs.Plan.{plan_of, cpu_count};
@@ -6,7 +7,7 @@ ghost use Rattle.clk_machine.specs.Short.{IsWellFormed};
 ghost use Rattle.clk_latch.specs.Calls.{AreDrawn, IsRecordZero};
 ghost use Rattle.clk_latch.specs.Epoch.{owner_of};
 
-use crate::{Epochs, Latch, drawn_tickets_stay, readings_stay_right};
+use crate::{CellLatch, Epochs, Latch, drawn_tickets_stay, readings_stay_right};
 use clk_machine::{
     CpuCounter, CpuPart, Jump, Machine, Parts, Published, RawReading, ReferencePart, Script,
 };
@@ -45,10 +46,13 @@ fn parts(alloc: Global, khz: i64, jumps: List<Jump>) -> Result<Parts, AllocError
     cpu.push(CpuPart {
         khz,
         offset: 0,
+        socket: 0,
         jumps,
         script,
     });
     Ok(Parts {
+        version: 1,
+        base: 0,
         cpus: 1,
         step: 10,
         tick: 1_000_000,
@@ -81,7 +85,6 @@ fn jumping_parts(alloc: Global) -> Result<Parts, AllocError>
 }
 
 // Record 0, for which no ticket is drawn here.
-#[tactic(auto, unfolding(clk_machine::specs::Records::base_of))]
 fn zero_of(machine: &Machine) -> Published
     requires { 0 < cpu_count machine.now }
     ensures zero { result ≡ record_zero machine.now }
@@ -93,7 +96,7 @@ fn zero_of(machine: &Machine) -> Published
         rec: 0,
         ticket: 0,
         cyc: machine.counter(0, 0, 0),
-        ns: 0,
+        ns: machine.base(),
     }
 }
 
@@ -175,77 +178,83 @@ impl<E: Epochs> Reader<E> {
     }
 }
 
-fn read_all<R: Threads + Sync>(
+fn read_all<E: Epochs + Sync, R: Threads + Sync>(
     rt: &R,
-    latch: &Latch,
+    epochs: &E,
     tickets: &TicketTable,
     machine: &Machine,
-    readers: &mut [Reader<Latch>],
+    readers: &mut [Reader<E>],
 )
-    requires ready { All (λ r. (r.seat.latch ≡ latch.now) × (r.time ≡ fresh tickets.now.table READS r.time.seen)) readers.old }
+    requires ready { All (λ r. (E.fits epochs.now r.seat) × (r.time ≡ fresh tickets.now.table READS r.time.seen)) readers.old }
     requires cpu { 0 < cpu_count machine.now }
-    ensures { All (λ r. (r.seat.latch ≡ latch.now) × (r.time.table ≡ tickets.now.table) × (share_of r.time ≡ READS)) readers.new }
+    ensures { All (λ r. (E.fits epochs.now r.seat) × (r.time.table ≡ tickets.now.table) × (share_of r.time ≡ READS)) readers.new }
 {
     for_each_mut(
         rt,
         readers,
         READERS,
-        &|_, reader| reader.work(latch, tickets, machine),
+        &|_, reader|
+            requires { (E.fits epochs.now reader.old.seat)
+                × (reader.old.time ≡ fresh tickets.now.table READS reader.old.time.seen) × (0 < cpu_count machine.now) }
+        { reader.work(epochs, tickets, machine) },
     );
 }
 
-fn work_all<R: Threads + Sync>(
+fn work_all<E: Epochs + Sync, R: Threads + Sync>(
     rt: &R,
-    latch: &Latch,
+    epochs: &E,
     tickets: &TicketTable,
     machine: &Machine,
-    owner: &mut Owner<Latch>,
-    readers: &mut [Reader<Latch>],
+    owner: &mut Owner<E>,
+    readers: &mut [Reader<E>],
 )
-    requires own { owner.old.seat.latch ≡ latch.now }
-    requires epoch { owner.old.seat.epoch ≡ owner_of (record_zero machine.now) UPDATES }
+    requires own { E.fits epochs.now owner.old.seat }
+    requires epoch { E.epoch owner.old.seat ≡ owner_of (record_zero machine.now) UPDATES }
     requires time { owner.old.time ≡ fresh tickets.now.table UPDATES owner.old.time.seen }
-    requires ready { All (λ r. (r.seat.latch ≡ latch.now) × (r.time ≡ fresh tickets.now.table READS r.time.seen)) readers.old }
+    requires ready { All (λ r. (E.fits epochs.now r.seat) × (r.time ≡ fresh tickets.now.table READS r.time.seen)) readers.old }
     requires cpu { 0 < cpu_count machine.now }
-    ensures own { owner.new.seat.latch ≡ latch.now }
+    ensures own { E.fits epochs.now owner.new.seat }
     ensures table { owner.new.time.table ≡ tickets.now.table }
     ensures share { share_of owner.new.time ≡ UPDATES }
-    ensures readers { All (λ r. (r.seat.latch ≡ latch.now) × (r.time.table ≡ tickets.now.table) × (share_of r.time ≡ READS)) readers.new }
+    ensures readers { All (λ r. (E.fits epochs.now r.seat) × (r.time.table ≡ tickets.now.table) × (share_of r.time ≡ READS)) readers.new }
 {
     join_mut(
         rt,
-        &mut || owner.work(latch, tickets, machine),
         &mut ||
-            requires { (All (λ r. (r.seat.latch ≡ latch.now) × (r.time ≡ fresh tickets.now.table READS r.time.seen)) readers.now)
+            requires { (E.fits epochs.now owner.now.seat) × (E.epoch owner.now.seat ≡ owner_of (record_zero machine.now) UPDATES)
+                × (owner.now.time ≡ fresh tickets.now.table UPDATES owner.now.time.seen) × (0 < cpu_count machine.now) }
+        { owner.work(epochs, tickets, machine) },
+        &mut ||
+            requires { (All (λ r. (E.fits epochs.now r.seat) × (r.time ≡ fresh tickets.now.table READS r.time.seen)) readers.now)
                 × (0 < cpu_count machine.now) }
             ensures { All
-                (λ r. (r.seat.latch ≡ latch.entry.now) × (r.time.table ≡ tickets.entry.now.table) × (share_of r.time ≡ READS))
+                (λ r. (E.fits epochs.entry.now r.seat) × (r.time.table ≡ tickets.entry.now.table) × (share_of r.time ≡ READS))
                 readers.exit.now }
-        { read_all(rt, latch, tickets, machine, readers) },
+        { read_all(rt, epochs, tickets, machine, readers) },
     );
 }
 
 // The same, over readers that are handed back.
-fn worked<R: Threads + Sync>(
+fn worked<E: Epochs + Sync, R: Threads + Sync>(
     rt: &R,
-    latch: &Latch,
+    epochs: &E,
     tickets: &TicketTable,
     machine: &Machine,
-    owner: &mut Owner<Latch>,
-    mut readers: Vec<Reader<Latch>>,
-) -> Vec<Reader<Latch>>
-    requires own { owner.old.seat.latch ≡ latch.now }
-    requires epoch { owner.old.seat.epoch ≡ owner_of (record_zero machine.now) UPDATES }
+    owner: &mut Owner<E>,
+    mut readers: Vec<Reader<E>>,
+) -> Vec<Reader<E>>
+    requires own { E.fits epochs.now owner.old.seat }
+    requires epoch { E.epoch owner.old.seat ≡ owner_of (record_zero machine.now) UPDATES }
     requires time { owner.old.time ≡ fresh tickets.now.table UPDATES owner.old.time.seen }
-    requires ready { All (λ r. (r.seat.latch ≡ latch.now) × (r.time ≡ fresh tickets.now.table READS r.time.seen)) readers.items }
+    requires ready { All (λ r. (E.fits epochs.now r.seat) × (r.time ≡ fresh tickets.now.table READS r.time.seen)) readers.items }
     requires cpu { 0 < cpu_count machine.now }
-    ensures own { owner.new.seat.latch ≡ latch.now }
+    ensures own { E.fits epochs.now owner.new.seat }
     ensures table { owner.new.time.table ≡ tickets.now.table }
     ensures share { share_of owner.new.time ≡ UPDATES }
-    ensures readers { All (λ r. (r.seat.latch ≡ latch.now) × (r.time.table ≡ tickets.now.table) × (share_of r.time ≡ READS)) result.items }
+    ensures readers { All (λ r. (E.fits epochs.now r.seat) × (r.time.table ≡ tickets.now.table) × (share_of r.time ≡ READS)) result.items }
     ensures count { vec_len result ≡ vec_len readers }
 {
-    work_all(rt, latch, tickets, machine, owner, readers.as_mut_slice());
+    work_all(rt, epochs, tickets, machine, owner, readers.as_mut_slice());
     readers
 }
 
@@ -362,31 +371,72 @@ fn check_order<E: Epochs>(rt: &impl Abort, readers: &[Reader<E>]) {
 }
 
 // The owner and its readers have run on threads of their own, and met.
-fn run<R: Threads + Sync + Abort>(
+fn run<E: Epochs + Sync, R: Threads + Sync + Abort>(
     rt: &R,
     alloc: Global,
     machine: &Machine,
+    epochs: &E,
+    seat: E::Seat,
     tickets: &TicketTable,
     time: TimeSeat,
     readings: &mut Vec<RawReading>,
-) -> Result<Owner<Latch>, AllocError>
+) -> Result<Owner<E>, AllocError>
+    requires own { E.fits epochs.now seat }
+    requires epoch { E.epoch seat ≡ owner_of (record_zero machine.now) UPDATES }
     requires cpu { 0 < cpu_count machine.now }
     requires time { time ≡ fresh tickets.now.table TOTAL 0 }
     ensures table { IfOk result (λ o. o.time.table ≡ tickets.now.table) }
     ensures share { IfOk result (λ o. share_of o.time ≡ TOTAL) }
 {
-    let mut time = time;
-    let (latch, mut seat) = Latch::new(alloc, zero_of(machine), UPDATES as u32)?;
-    let readers = readers_of(alloc, &latch, tickets, &mut seat, &mut time)?;
+    let (mut seat, mut time) = (seat, time);
+    let readers = readers_of(alloc, epochs, tickets, &mut seat, &mut time)?;
     let published = Vec::new(alloc);
     let mut owner = Owner {
         seat,
         time,
         published,
     };
-    let readers = worked(rt, &latch, tickets, machine, &mut owner, readers);
+    let readers = worked(rt, epochs, tickets, machine, &mut owner, readers);
     check_order(rt, readers.as_slice());
-    joined(&latch, tickets, owner, readers, readings)
+    joined(epochs, tickets, owner, readers, readings)
+}
+
+// All updates and readings of the owner and its readers are right.
+fn check_run<E: Epochs + Sync, R: Threads + Sync + Abort>(
+    rt: &R,
+    alloc: Global,
+    machine: &Machine,
+    epochs: &E,
+    seat: E::Seat,
+) -> Result<(), AllocError>
+    requires own { E.fits epochs.now seat }
+    requires epoch { E.epoch seat ≡ owner_of (record_zero machine.now) UPDATES }
+    requires cpu { 0 < cpu_count machine.now }
+{
+    let (tickets, time) = TicketTable::new(alloc, TOTAL)?;
+    let mut readings = Vec::new(alloc);
+    let owner = run(
+        rt,
+        alloc,
+        machine,
+        epochs,
+        seat,
+        &tickets,
+        time,
+        &mut readings,
+    )?;
+    assert_eq!(rt; tickets.finish(owner.time), 31_024);
+    assert_eq!(rt; owner.published.len(), 1_024);
+    let zero = zero_of(machine);
+    check_records(rt, machine, zero, owner.published.as_slice());
+    check_readings(
+        rt,
+        machine,
+        zero,
+        owner.published.as_slice(),
+        readings.as_slice(),
+    );
+    Ok(())
 }
 
 #[test]
@@ -394,20 +444,18 @@ fn latch_under_readers(rt: HostRuntime) -> Result<(), Fail> {
     let alloc = rt.alloc();
     let machine = Machine::new(jumping_parts(alloc)?).expect(&rt, "a machine");
     assert_eq!(rt; machine.cpus(), 1);
-    let (tickets, time) = TicketTable::new(alloc, TOTAL)?;
-    let mut readings = Vec::new(alloc);
-    let owner = run(&rt, alloc, &machine, &tickets, time, &mut readings)?;
-    assert_eq!(rt; tickets.finish(owner.time), 31_024);
-    assert_eq!(rt; owner.published.len(), 1_024);
-    let zero = zero_of(&machine);
-    check_records(&rt, &machine, zero, owner.published.as_slice());
-    check_readings(
-        &rt,
-        &machine,
-        zero,
-        owner.published.as_slice(),
-        readings.as_slice(),
-    );
+    let (latch, seat) = Latch::new(alloc, zero_of(&machine), UPDATES as u32)?;
+    check_run(&rt, alloc, &machine, &latch, seat)?;
+    Ok(())
+}
+
+#[test]
+fn cell_latch_under_readers(rt: HostRuntime) -> Result<(), Fail> {
+    let alloc = rt.alloc();
+    let machine = Machine::new(jumping_parts(alloc)?).expect(&rt, "a machine");
+    assert_eq!(rt; machine.cpus(), 1);
+    let (latch, seat) = CellLatch::new(&rt, alloc, zero_of(&machine), UPDATES as u32)?;
+    check_run(&rt, alloc, &machine, &latch, seat)?;
     Ok(())
 }
 
@@ -446,5 +494,56 @@ fn update_between_readings(rt: HostRuntime) -> Result<(), Fail> {
     assert_eq!(rt; tickets.finish(time), 7);
     readings_stay_right();
     drawn_tickets_stay();
+    Ok(())
+}
+
+// What a latch answers to one script: a reading, an update, a reading, a join of both seats and a reading.
+fn answers<E: Epochs>(
+    epochs: &E,
+    mut owner: E::Seat,
+    tickets: &TicketTable,
+    time: &mut TimeSeat,
+    machine: &Machine,
+) -> ([RawReading; 3], Published)
+    requires own { E.fits epochs.now owner }
+    requires epoch { E.epoch owner ≡ owner_of (record_zero machine.now) 1 }
+    requires table { time.old.table ≡ tickets.now.table }
+    requires tickets { 4 ≤ time.old.left }
+    requires cpu { 0 < cpu_count machine.now }
+    ensures table { time.new.table ≡ tickets.now.table }
+    ensures share { share_of time.new ≡ share_of time.old }
+{
+    let counter = CpuCounter {
+        machine,
+        cpu: 0,
+        adjust: 0,
+    };
+    let mut reader = epochs.split(&mut owner);
+    let first = epochs.read(&mut reader, tickets, time, counter);
+    let record = epochs.update(&mut owner, tickets, time, counter);
+    let second = epochs.read(&mut reader, tickets, time, counter);
+    let mut whole = epochs.join(reader, owner);
+    let third = epochs.read(&mut whole, tickets, time, counter);
+    ([first, second, third], record)
+}
+
+// Both draw the tickets 0 to 3, each from a table of its own.
+#[test]
+fn both_latches_answer_alike(rt: HostRuntime) -> Result<(), Fail> {
+    let alloc = rt.alloc();
+    let machine = Machine::new(jumping_parts(alloc)?).expect(&rt, "a machine");
+    assert_eq!(rt; machine.cpus(), 1);
+    let zero = zero_of(&machine);
+    let (latch, seat) = Latch::new(alloc, zero, 1)?;
+    let (cell, cell_seat) = CellLatch::new(&rt, alloc, zero, 1)?;
+    let (tickets, mut time) = TicketTable::new(alloc, 4)?;
+    let (cell_tickets, mut cell_time) = TicketTable::new(alloc, 4)?;
+    let over_words = answers(&latch, seat, &tickets, &mut time, &machine);
+    let over_cell = answers(&cell, cell_seat, &cell_tickets, &mut cell_time, &machine);
+    assert_eq!(rt; over_cell, over_words);
+    assert_eq!(rt;
+        (tickets.finish(time), cell_tickets.finish(cell_time)),
+        (4, 4)
+    );
     Ok(())
 }

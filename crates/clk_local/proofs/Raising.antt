@@ -1,6 +1,6 @@
 -- Lemmas on raising a word: raw readings are near the opening of the words, the pair that was loaded may be named, and what
 -- a step finds is not below what was seen of its word.
-use Rattle.std.proofs.Common.{◌≡◌, ℕ, ◌*◌, ◌^◌, ℤ, List, [], ◌∷◌, ◌++◌, get_or, sym, ap, ◌∙◌, subst, arith}
+use Rattle.std.proofs.Common.{◌≡◌, ℕ, ◌*◌, ◌^◌, ℤ, List, [], ◌∷◌, ◌++◌, get_or, refl, sym, ap, ◌∙◌, subst, arith}
 use Rattle.std.proofs.lemmas.Int.{ints}
 use mathlib.Core.List.{IsPrefix}
 use Rattle.clk_num.specs.Range.{IsFrom0To}
@@ -14,13 +14,13 @@ use Rattle.clk_words.specs.declared.view.View.{View}
 use Rattle.clk_words.specs.declared.view.Name.TheVariants.{Gtod, Raw}
 use Rattle.clk_words.specs.Bounds.{IsRaw}
 use Rattle.clk_words.specs.Calls.{step_of}
-use Rattle.clk_words.specs.Histories.{opens_at, value_after, IsGlobalHistory}
+use Rattle.clk_words.specs.Histories.{opens_at, IsGlobalHistory}
 use Rattle.clk_words.specs.Kinds.{cpu_of}
 use Rattle.clk_words.specs.Knowing.{HasLoaded, IsTrusted}
 use Rattle.clk_words.specs.Parts.{gtod_of, raw_of}
 use Rattle.clk_words.specs.Targets.{target}
-use Rattle.clk_words.specs.Told.{Raises, FindsRaw, FindsGtod}
-use Rattle.clk_words.proofs.Loading.{loaded_stamp, kept_stamp, trusted_half}
+use Rattle.clk_words.specs.Told.{Raises, FindsRaw, FindsGtod, FindsOffset}
+use Rattle.clk_words.proofs.Loading.{loaded_stamp, kept_stamp, kept_offset, trusted_half}
 use Rattle.clk_words.proofs.Replay.{words_rise, follow_front}
 use Rattle.clk_machine.specs.Plan.{Plan}
 use Rattle.clk_machine.specs.Records.{record_zero, base_of, above_base}
@@ -59,28 +59,31 @@ raw_near m cpu adjust before after r opens reads begins opening =
 
 -- ---- the pair, and the step
 
--- the pair that was loaded may be named
-pub trusted_pair : (v half w : View) (raw tick_raw tick_gtod offset : ℤ) → IsRaw (opens_at v.start) raw → FindsRaw v (cpu_of v.kind) tick_raw half → FindsGtod half (cpu_of half.kind) tick_gtod w
-    → offset ≡ w.start.opening.offset → IsTrusted w (Raise raw tick_raw tick_gtod offset)
-trusted_pair v half w raw tick_raw tick_gtod offset bound one two is =
+-- the pair and the offset that were loaded may be named
+pub trusted_why : (v half both w : View) (raw tick_raw tick_gtod offset : ℤ) → IsRaw (opens_at v.start) raw → FindsRaw v (cpu_of v.kind) tick_raw half → FindsGtod half (cpu_of half.kind) tick_gtod both
+    → FindsOffset both offset w → IsTrusted w (Raise raw tick_raw tick_gtod offset)
+trusted_why v half both w raw tick_raw tick_gtod offset bound one two three =
     let kept = kept_stamp v half (raw_of (cpu_of v.kind)) (Raw (cpu_of v.kind)) tick_raw one.finds in
     let loaded : HasLoaded half (Raw (cpu_of half.kind)) tick_raw =
     subst (λ k. HasLoaded half (Raw (cpu_of k)) tick_raw) (sym kept.kind_is) (loaded_stamp v half (raw_of (cpu_of v.kind)) (Raw (cpu_of v.kind)) tick_raw one.finds) in
-    let later = kept_stamp half w (gtod_of (cpu_of half.kind)) (Gtod (cpu_of half.kind)) tick_gtod two.finds in
-    let near : IsRaw (opens_at w.start) raw = subst (λ (s : Start). IsRaw (opens_at s) raw) (sym (later.start_is ∙ kept.start_is)) bound in
-    trusted_half half w raw tick_raw tick_gtod offset near loaded two is
+    let later = kept_stamp half both (gtod_of (cpu_of half.kind)) (Gtod (cpu_of half.kind)) tick_gtod two.finds in
+    let last = kept_offset both w offset three in
+    let near : IsRaw (opens_at w.start) raw = subst (λ (s : Start). IsRaw (opens_at s) raw) (sym (last.start_is ∙ later.start_is ∙ kept.start_is)) bound in
+    trusted_half half both w raw tick_raw tick_gtod offset near loaded two three
 
--- and it is what a reading goes by
-pub found_why : (v half w : View) (raw tick_raw tick_gtod offset : ℤ) → FindsRaw v (cpu_of v.kind) tick_raw half → FindsGtod half (cpu_of half.kind) tick_gtod w
-    → offset ≡ w.start.opening.offset → FindsWhy v raw (Raise raw tick_raw tick_gtod offset) w
-found_why v half w raw tick_raw tick_gtod offset one two is =
+-- and they are what a reading goes by
+pub found_why : (v half both w : View) (raw tick_raw tick_gtod offset : ℤ) → FindsRaw v (cpu_of v.kind) tick_raw half → FindsGtod half (cpu_of half.kind) tick_gtod both
+    → FindsOffset both offset w → FindsWhy v raw (Raise raw tick_raw tick_gtod offset) w
+found_why v half both w raw tick_raw tick_gtod offset one two three =
     let kept = kept_stamp v half (raw_of (cpu_of v.kind)) (Raw (cpu_of v.kind)) tick_raw one.finds in
-    let later = kept_stamp half w (gtod_of (cpu_of half.kind)) (Gtod (cpu_of half.kind)) tick_gtod two.finds in
     record {
       tick_raw = tick_raw;
       tick_gtod = tick_gtod;
-      pair = record { half = half; first = one; second = subst (λ k. FindsGtod half k tick_gtod w) (ap cpu_of kept.kind_is) two };
-      why_is = ap (Raise raw tick_raw tick_gtod) (is ∙ ap (λ (s : Start). s.opening.offset) (later.start_is ∙ kept.start_is));
+      offset = offset;
+      both = both;
+      pair = record { half = half; first = one; second = subst (λ k. FindsGtod half k tick_gtod both) (ap cpu_of kept.kind_is) two };
+      last = three;
+      why_is = refl;
     }
 
 -- the step of the seat's own word, in words of the same start

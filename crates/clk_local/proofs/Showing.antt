@@ -1,15 +1,17 @@
 -- Lemmas on what calls show: the parts of a raised reading, of a stamp and of a tick, put together.
-use Rattle.std.proofs.Common.{◌≡◌, ℕ, ℤ, true, List, [], ◌∷◌, ◌++◌, sym, ap, ◌∙◌, subst, Some, arith, append_assoc, append-nil}
+use Rattle.std.proofs.Common.{◌≡◌, ℕ, ℤ, ◌⊎◌, inl, inr, IsTrue, true, List, [], ◌∷◌, ◌++◌, sym, ap, ◌∙◌, subst, Some, arith, append_assoc, append-nil}
 use Rattle.clk_num.specs.Wrapping.{IsNotBelow, raise}
 use Rattle.clk_num.proofs.Heights.{raise_rises}
 use Rattle.clk_words.specs.declared.opening.Start.{Start}
+use Rattle.clk_words.specs.declared.opening.Mode.{Mode}
+use Rattle.clk_words.specs.declared.opening.Mode.TheVariants.{PerCpu as PerCpuMode}
 use Rattle.clk_words.specs.declared.step.Step.{Step}
 use Rattle.clk_words.specs.declared.step.Why.{Why}
 use Rattle.clk_words.specs.declared.step.Why.TheVariants.{Raise}
 use Rattle.clk_words.specs.declared.view.View.{View}
 use Rattle.clk_words.specs.declared.view.Load.{Load}
 use Rattle.clk_words.specs.declared.view.Name.{Name}
-use Rattle.clk_words.specs.declared.view.Name.TheVariants.{Raw, Gtod}
+use Rattle.clk_words.specs.declared.view.Name.TheVariants.{Raw, Gtod, Offset}
 use Rattle.clk_words.specs.declared.view.Part.{Part}
 use Rattle.clk_words.specs.Histories.{opens_at, value_after}
 use Rattle.clk_words.specs.Kinds.{cpu_of}
@@ -18,38 +20,51 @@ use Rattle.clk_words.specs.Knowing.{IsOwner, StampsAreWhole}
 use Rattle.clk_words.specs.Parts.{gtod_of, raw_of, part_of, last_from}
 use Rattle.clk_words.specs.Rights.{has_number}
 use Rattle.clk_words.specs.Targets.{target}
-use Rattle.clk_words.specs.Told.{Raises, Finds, FindsRaw, FindsGtod, stamped}
+use Rattle.clk_words.specs.Told.{Raises, Finds, FindsRaw, FindsGtod, FindsOffset, stamped}
+use Rattle.clk_words.proofs.Loading.{whole_offset}
 use Rattle.clk_words.proofs.Registers.{put_here, put_else, last_more}
 use Rattle.clk_words.proofs.Turns.{whole_gtod, whole_raw, owner_gtod, owner_raw}
 use Rattle.clk_machine.specs.declared.reading.RawReading.{RawReading}
 use Rattle.clk_latch.specs.Calls.{DrawsTicket, Reads}
+use Rattle.clk_local.specs.declared.events.Reading.{Reading}
+use Rattle.clk_local.specs.declared.events.Reading.TheVariants.{Stable, PerCpu}
+use Rattle.clk_local.specs.declared.events.TickEvent.{TickEvent}
+use Rattle.clk_local.specs.declared.events.TickEvent.TheVariants.{Nothing, Ticked}
 use Rattle.clk_local.specs.declared.events.IdleEvent.{IdleEvent}
 use Rattle.clk_local.specs.Context.{Site, Known, MayStamp}
 use Rattle.clk_local.specs.Raising.{FindsPair, FindsWhy, own_step, shown_on}
-use Rattle.clk_local.specs.Shows.{ShowsRaised, ShowsStamp, ShowsTicked, ShowsReading, ShowsTick, ShowsIdle}
+use Rattle.clk_local.specs.Shows.{ShowsLook, ShowsRaised, ShowsStamp, ShowsTicked, OnReading, OnTick, ShowsReading, ShowsTick, ShowsIdle, IsPerCpu, HasTicked, mode_read, mode_ticked}
 use Rattle.clk_local.proofs.Raising.{found_not_below}
 
--- the loads of the pair, and no others
-pair_loads : (cpu : ℕ) (v pair w : View) (tick_raw tick_gtod : ℤ) (s : Step) → cpu ≡ cpu_of v.kind → FindsPair v tick_raw tick_gtod pair → Raises pair s w
-    → w.loads ≡ v.loads ++ (record { of = Raw cpu; value = tick_raw }) ∷ (record { of = Gtod cpu; value = tick_gtod }) ∷ []
-pair_loads cpu v pair w tick_raw tick_gtod s here f r =
+-- the loads of the pair and of the offset, and no others
+why_loads : (cpu : ℕ) (v both loaded w : View) (tick_raw tick_gtod offset : ℤ) (s : Step) → cpu ≡ cpu_of v.kind → FindsPair v tick_raw tick_gtod both → FindsOffset both offset loaded → Raises loaded s w
+    → w.loads ≡ v.loads ++ (record { of = Raw cpu; value = tick_raw }) ∷ (record { of = Gtod cpu; value = tick_gtod }) ∷ (record { of = Offset; value = offset }) ∷ []
+why_loads cpu v both loaded w tick_raw tick_gtod offset s here f o r =
     let raw : Load = record { of = Raw cpu; value = tick_raw } in
     let gtod : Load = record { of = Gtod cpu; value = tick_gtod } in
+    let last : Load = record { of = Offset; value = offset } in
     let one : f.half.loads ≡ v.loads ++ raw ∷ [] =
     ap (λ (u : View). u.loads) f.first.finds.view_is ∙ ap (λ k. v.loads ++ (record { of = Raw k; value = tick_raw }) ∷ []) (sym here) in
-    let two : pair.loads ≡ f.half.loads ++ gtod ∷ [] =
+    let two : both.loads ≡ f.half.loads ++ gtod ∷ [] =
     ap (λ (u : View). u.loads) f.second.finds.view_is ∙ ap (λ k. f.half.loads ++ (record { of = Gtod k; value = tick_gtod }) ∷ []) (sym here) in
+    let three : loaded.loads ≡ both.loads ++ last ∷ [] = ap (λ (u : View). u.loads) o.view_is in
     ap (λ (u : View). u.loads) r.makes.view_is
-    ∙ two
-    ∙ ap (λ ls. ls ++ gtod ∷ []) one
-    ∙ append_assoc v.loads (raw ∷ []) (gtod ∷ [])
+    ∙ three
+    ∙ ap (λ ls. ls ++ last ∷ []) (two ∙ ap (λ ls. ls ++ gtod ∷ []) one ∙ append_assoc v.loads (raw ∷ []) (gtod ∷ []))
+    ∙ append_assoc v.loads (raw ∷ gtod ∷ []) (last ∷ [])
 
--- what the loads of a pair leave as it was
-pair_seen : (v pair : View) (tick_raw tick_gtod : ℤ) → FindsPair v tick_raw tick_gtod pair → pair.seen ≡ v.seen
-pair_seen v pair tick_raw tick_gtod f = ap (λ (u : View). u.seen) f.second.finds.view_is ∙ ap (λ (u : View). u.seen) f.first.finds.view_is
+-- what those loads leave as it was
+why_seen : (v both w : View) (tick_raw tick_gtod offset : ℤ) → FindsPair v tick_raw tick_gtod both → FindsOffset both offset w → w.seen ≡ v.seen
+why_seen v both w tick_raw tick_gtod offset f o = ap (λ (u : View). u.seen) o.view_is ∙ ap (λ (u : View). u.seen) f.second.finds.view_is ∙ ap (λ (u : View). u.seen) f.first.finds.view_is
 
-pair_mine : (v pair : View) (tick_raw tick_gtod : ℤ) → FindsPair v tick_raw tick_gtod pair → pair.mine ≡ v.mine
-pair_mine v pair tick_raw tick_gtod f = ap (λ (u : View). u.mine) f.second.finds.view_is ∙ ap (λ (u : View). u.mine) f.first.finds.view_is
+why_mine : (v both w : View) (tick_raw tick_gtod offset : ℤ) → FindsPair v tick_raw tick_gtod both → FindsOffset both offset w → w.mine ≡ v.mine
+why_mine v both w tick_raw tick_gtod offset f o = ap (λ (u : View). u.mine) o.view_is ∙ ap (λ (u : View). u.mine) f.second.finds.view_is ∙ ap (λ (u : View). u.mine) f.first.finds.view_is
+
+-- in a per-CPU start the offset is the one of the opening
+why_start : (v both w : View) (tick_raw tick_gtod offset : ℤ) → FindsPair v tick_raw tick_gtod both → FindsOffset both offset w → v.start.opening.mode ≡ PerCpuMode → offset ≡ v.start.opening.offset
+why_start v both w tick_raw tick_gtod offset f o percpu =
+    let same : both.start ≡ v.start = ap (λ (u : View). u.start) f.second.finds.view_is ∙ ap (λ (u : View). u.start) f.first.finds.view_is in
+    o.from_start (ap (λ (s : Start). s.opening.mode) same ∙ percpu) ∙ ap (λ (s : Start). s.opening.offset) same
 
 -- a seat that was kept makes the same step
 same_step : (v pair : View) (call : ℕ) (why : Why) (old : ℤ) → KeepsSeat v pair → own_step pair call why old ≡ own_step v call why old
@@ -61,36 +76,40 @@ same_step v pair call why old kept =
 step_rises : (v : View) (call : ℕ) (why : Why) (s : Step) → s ≡ own_step v call why s.old → IsNotBelow s.new s.old
 step_rises v call why s is = subst (λ x. IsNotBelow x s.old) (sym (ap (λ (t : Step). t.new) is)) (raise_rises s.old (target v.start.tick why))
 
-pub shows_raised : (z : Site) (v w : Known) (pair : View) (raw : RawReading) (why : Why) (step : Step)
+pub shows_raised : (z : Site) (v w : Known) (loaded : View) (raw : RawReading) (why : Why) (step : Step)
     → z.cpu ≡ cpu_of v.view.kind → DrawsTicket v.time raw.ticket w.time → Reads z.machine z.cpu z.adjust v.epoch w.epoch raw
-    → FindsWhy v.view raw.ns why pair → KeepsSeat v.view pair
-    → step ≡ own_step pair z.call why step.old → Raises pair step w.view → ShowsRaised z v raw step w
-shows_raised z v w pair raw why step here draws reads finds kept step_is raises = record {
+    → FindsWhy v.view raw.ns why loaded → KeepsSeat v.view loaded
+    → step ≡ own_step loaded z.call why step.old → Raises loaded step w.view → ShowsRaised z v raw step w
+shows_raised z v w loaded raw why step here draws reads finds kept step_is raises = record {
   tick_raw = finds.tick_raw;
   tick_gtod = finds.tick_gtod;
-  pair = pair;
+  offset = finds.offset;
+  pair = finds.both;
+  loaded = loaded;
   reads = record { draws = draws; reads = reads };
   finds = finds.pair;
+  finds_offset = finds.last;
   raises = raises;
   step_is = same ∙ ap (λ y. own_step v.view z.call y step.old) finds.why_is;
-  mine_is = ap (λ (u : View). u.mine) raises.makes.view_is ∙ ap (λ ss. ss ++ step ∷ []) (pair_mine _ _ _ _ finds.pair);
-  seen_is = ap (λ (u : View). u.seen) raises.makes.view_is ∙ ap (λ ss. (ss ++ raises.makes.between) ++ step ∷ []) (pair_seen _ _ _ _ finds.pair);
-  loads_is = pair_loads z.cpu v.view pair w.view finds.tick_raw finds.tick_gtod step here finds.pair raises;
-  pairs_is = ap (λ (u : View). u.pairs) raises.makes.view_is;
-  not_below = subst (IsNotBelow step.old) shown (found_not_below pair w.view step raises);
+  mine_is = ap (λ (u : View). u.mine) raises.makes.view_is ∙ ap (λ ss. ss ++ step ∷ []) (why_mine _ _ _ _ _ _ finds.pair finds.last);
+  seen_is = ap (λ (u : View). u.seen) raises.makes.view_is ∙ ap (λ ss. (ss ++ raises.makes.between) ++ step ∷ []) (why_seen _ _ _ _ _ _ finds.pair finds.last);
+  loads_is = why_loads z.cpu v.view finds.both loaded w.view finds.tick_raw finds.tick_gtod finds.offset step here finds.pair finds.last raises;
+  pairs_is = ap (λ (u : View). u.pairs) raises.makes.view_is ∙ ap (λ (u : View). u.pairs) finds.last.view_is;
+  from_start = why_start _ _ _ _ _ _ finds.pair finds.last;
+  not_below = subst (IsNotBelow step.old) shown (found_not_below loaded w.view step raises);
   rises = step_rises v.view z.call why step same;
 }
   where
     same : step ≡ own_step v.view z.call why step.old
-    same = step_is ∙ same_step v.view pair z.call why step.old kept
+    same = step_is ∙ same_step v.view loaded z.call why step.old kept
 
     word : step.word ≡ z.cpu
     word = ap (λ (t : Step). t.word) same ∙ sym here
 
-    shown : shown_on step.word pair ≡ shown_on z.cpu v.view
+    shown : shown_on step.word loaded ≡ shown_on z.cpu v.view
     shown =
-        ap (λ (o : Start). value_after (opens_at o) step.word pair.seen) kept.start_is
-        ∙ ap (λ ss. value_after (opens_at v.view.start) step.word ss) (pair_seen _ _ _ _ finds.pair)
+        ap (λ (o : Start). value_after (opens_at o) step.word loaded.seen) kept.start_is
+        ∙ ap (λ ss. value_after (opens_at v.view.start) step.word ss) (why_seen _ _ _ _ _ _ finds.pair finds.last)
         ∙ ap (λ k. shown_on k v.view) word
 
 -- ---- stamps
@@ -148,8 +167,9 @@ owner_raised z v w raw step shows may =
     let owner_half = owner_raw v.view f.half shows.tick_raw f.first may.owner in
     let whole_half = whole_raw v.view f.half shows.tick_raw f.first may.owner may.whole in
     record {
-      owner = subst IsOwner (sym shows.raises.makes.view_is) (owner_gtod f.half shows.pair shows.tick_gtod second owner_half);
-      whole = subst StampsAreWhole (sym shows.raises.makes.view_is) (whole_gtod f.half shows.pair shows.tick_gtod second owner_half whole_half);
+      owner = subst IsOwner (sym shows.raises.makes.view_is) (subst IsOwner (sym shows.finds_offset.view_is) (owner_gtod f.half shows.pair shows.tick_gtod second owner_half));
+      whole = subst StampsAreWhole (sym shows.raises.makes.view_is)
+          (whole_offset shows.pair shows.loaded shows.offset shows.finds_offset (whole_gtod f.half shows.pair shows.tick_gtod second owner_half whole_half));
     }
 
 -- a tick, whose reading was made at the same site
@@ -162,9 +182,8 @@ shows_ticked y z v u w gtod_ticket gtod stamp raw step here owner same stamps ra
   raises = raises;
   pair_is =
       ap (λ (s : Step). s.why) raises.step_is
-      ∙ ap (λ x. Raise raw.ns x raises.tick_gtod u.view.start.opening.offset) pair.0
-      ∙ ap (λ x. Raise raw.ns stamp.ns x u.view.start.opening.offset) pair.1
-      ∙ ap (λ (x : View). Raise raw.ns stamp.ns gtod x.start.opening.offset) stamps.view_is;
+      ∙ ap (λ x. Raise raw.ns x raises.tick_gtod raises.offset) pair.0
+      ∙ ap (λ x. Raise raw.ns stamp.ns x raises.offset) pair.1;
 }
   where
     raises : ShowsRaised z u raw step w
@@ -173,6 +192,36 @@ shows_ticked y z v u w gtod_ticket gtod stamp raw step here owner same stamps ra
     pair : (raises.tick_raw ≡ stamp.ns) × (raises.tick_gtod ≡ gtod)
     pair = own_pair v.view u.view raises.pair raises.tick_raw raises.tick_gtod gtod stamp.ns (subst (λ k. u.view ≡ stamped (raw_of k) stamp.ns (stamped (gtod_of k) gtod v.view)) here stamps.view_is) owner raises.finds
 
+-- a look and then a reading, at the same site
+pub shows_reading : (y z : Site) (v u w : Known) (e : Reading) → y ≡ z → ShowsLook v (mode_read e) u → OnReading y u e w → ShowsReading z v e w
+shows_reading y z v u w e same looks shows = record { between = u; looks = looks; shows = subst (λ x. OnReading x u e w) same shows }
+
+-- a look and then a tick
+pub shows_tick : (y z : Site) (v u w : Known) (e : TickEvent) → y ≡ z → ShowsLook v (mode_ticked e) u → OnTick y u e w → ShowsTick z v e w
+shows_tick y z v u w e same looks shows = record { between = u; looks = looks; shows = subst (λ x. OnTick x u e w) same shows }
+
 -- a reading and then a tick
 pub shows_idle : (y z : Site) (v u w : Known) (e : IdleEvent) → y ≡ z → ShowsReading z v e.read u → ShowsTick y u e.tick w → ShowsIdle z v e w
 shows_idle y z v u w e same reads ticks = record { between = u; reads = reads; ticks = subst (λ x. ShowsTick x u e.tick w) same ticks }
+
+-- ---- what a look finds where the mode is known
+
+-- a seat that has found the mode per-CPU, or whose words began so, finds it so again
+found_percpu : (v w : Known) (mode : Mode) → ShowsLook v mode w → IsTrue v.view.modes.found ⊎ (v.view.start.opening.mode ≡ PerCpuMode) → mode ≡ PerCpuMode
+found_percpu v w mode looks (inl found) = looks.finds.stays found
+found_percpu v w mode looks (inr percpu) = looks.finds.from_start percpu
+
+read_percpu : (e : Reading) → mode_read e ≡ PerCpuMode → IsPerCpu e
+read_percpu (Stable raw value) e = absurd (cc)
+read_percpu (PerCpu raw step) e = tt
+
+tick_percpu : (e : TickEvent) → mode_ticked e ≡ PerCpuMode → HasTicked e
+tick_percpu Nothing e = absurd (cc)
+tick_percpu (Ticked gtod_ticket gtod stamp raw step) e = tt
+
+-- so its reading raises a word, and its tick stamps
+pub reads_percpu : (z : Site) (v w : Known) (e : Reading) → ShowsReading z v e w → IsTrue v.view.modes.found ⊎ (v.view.start.opening.mode ≡ PerCpuMode) → IsPerCpu e
+reads_percpu z v w e shows known = read_percpu e (found_percpu v shows.between (mode_read e) shows.looks known)
+
+pub ticks_percpu : (z : Site) (v w : Known) (e : TickEvent) → ShowsTick z v e w → IsTrue v.view.modes.found ⊎ (v.view.start.opening.mode ≡ PerCpuMode) → HasTicked e
+ticks_percpu z v w e shows known = tick_percpu e (found_percpu v shows.between (mode_ticked e) shows.looks known)

@@ -9,7 +9,7 @@ use Rattle.clk_words.specs.Calls.{step_of}
 use Rattle.clk_words.specs.Histories.{opens_at, value_after}
 use Rattle.clk_words.specs.Kinds.{cpu_of}
 use Rattle.clk_words.specs.Targets.{target}
-use Rattle.clk_words.specs.Told.{FindsRaw, FindsGtod}
+use Rattle.clk_words.specs.Told.{FindsRaw, FindsGtod, FindsOffset}
 
 -- the pair of the seat's CPU: its raw value first, then its GTOD
 pub record FindsPair (v : View) (tick_raw tick_gtod : ℤ) (w : View) : Type 0 where
@@ -17,12 +17,15 @@ pub record FindsPair (v : View) (tick_raw tick_gtod : ℤ) (w : View) : Type 0 w
   pub first : FindsRaw v (cpu_of v.kind) tick_raw half
   pub second : FindsGtod half (cpu_of v.kind) tick_gtod w
 
--- what a reading goes by: the raw clock now, that pair, and the offset
+-- what a reading goes by: the raw clock now, that pair, and then the offset
 pub record FindsWhy (v : View) (raw : ℤ) (why : Why) (w : View) : Type 0 where
   pub tick_raw : ℤ
   pub tick_gtod : ℤ
-  pub pair : FindsPair v tick_raw tick_gtod w
-  pub why_is : why ≡ Raise raw tick_raw tick_gtod v.start.opening.offset
+  pub offset : ℤ
+  pub both : View
+  pub pair : FindsPair v tick_raw tick_gtod both
+  pub last : FindsOffset both offset w
+  pub why_is : why ≡ Raise raw tick_raw tick_gtod offset
 
 -- what the view says that a clock word holds
 abbrev pub shown_on : ℕ → View → ℤ

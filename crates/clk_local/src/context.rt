@@ -1,3 +1,4 @@
+//! What a thread calls with: its seats and their objects.
 use clk_latch::Epochs;
 use clk_machine::CpuCounter;
 use clk_ticket::{TicketTable, TimeSeat};

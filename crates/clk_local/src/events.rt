@@ -1,3 +1,4 @@
+//! What the calls answer.
 use clk_machine::RawReading;
 use clk_words::Step;
 

@@ -1,5 +1,6 @@
 //! The local read.
 ghost use Rattle.std.specs.Prelude.{◌≡◌, ◌≤◌};
+ghost use Rattle.clk_words.specs.declared.opening.Mode.TheVariants.{PerCpu};
 ghost use Rattle.clk_words.specs.Bounds.{IsRaw};
 ghost use Rattle.clk_words.specs.Calls.{KeepsSeat};
 ghost use Rattle.clk_words.specs.Held.{place_of};
@@ -7,31 +8,40 @@ ghost use Rattle.clk_words.specs.Histories.{opens_at};
 ghost use Rattle.clk_words.specs.Knowing.{HasFoundPerCpu, IsReading, IsTrusted};
 ghost use Rattle.clk_local.specs.Context.{site_of, known_of, IsUsable, Keeps, Spends};
 ghost use Rattle.clk_local.specs.Raising.{FindsWhy};
-ghost use Rattle.clk_local.specs.Shows.{ShowsRaised, ShowsReading, IsPerCpu};
+ghost use Rattle.clk_local.specs.Shows.{ShowsLook, ShowsStable, ShowsRaised, ShowsReading};
 
 use crate::context::Ctx;
 use crate::events::Reading;
 use clk_latch::Epochs;
 use clk_machine::RawReading;
-use clk_words::{Seat, Step, Why, Words};
+use clk_words::{Mode, Seat, Step, Why, Words};
 
-/// A local read. It draws one ticket, and takes no memory and does not wait.
+/// A local read: a look at the mode, and then a stable or a raised reading by what it found. It draws one ticket, and takes
+/// no memory and does not wait. After `local_clock` of Linux 6.1.
 pub fn local<E: Epochs>(ctx: &mut Ctx<'_, E>) -> Reading
     requires usable { IsUsable E.fits E.epoch ctx.old }
     requires ticket { 1 ≤ ctx.old.time.left }
     ensures keeps { Keeps E.fits E.epoch ctx.old ctx.new }
     ensures spends { Spends 1 ctx.old.time ctx.new.time }
-    ensures percpu { IsPerCpu result }
     ensures shows { ShowsReading (site_of ctx.old) (known_of E.epoch ctx.old) result (known_of E.epoch ctx.new) }
 {
-    let (raw, step) = local_raised(ctx);
-    Reading::PerCpu { raw, step }
+    match look(ctx) {
+        Mode::Stable => {
+            let (raw, value) = local_stable(ctx);
+            Reading::Stable { raw, value }
+        }
+        Mode::PerCpu => {
+            let (raw, step) = local_raised(ctx);
+            Reading::PerCpu { raw, step }
+        }
+    }
 }
 
-/// The per-CPU part of a local read: the raw reading and the step whose new value is the reading. It draws one ticket,
-/// and takes no memory and does not wait. After `sched_clock_local` of Linux 6.1.
+/// The per-CPU part of a local read: the raw reading and the step whose new value is the reading. The seat has found the
+/// mode per-CPU. It draws one ticket, and takes no memory and does not wait. After `sched_clock_local` of Linux 6.1.
 pub fn local_raised<E: Epochs>(ctx: &mut Ctx<'_, E>) -> (RawReading, Step)
     requires usable { IsUsable E.fits E.epoch ctx.old }
+    requires found { HasFoundPerCpu ctx.old.seat.view }
     requires ticket { 1 ≤ ctx.old.time.left }
     ensures keeps { Keeps E.fits E.epoch ctx.old ctx.new }
     ensures spends { Spends 1 ctx.old.time ctx.new.time }
@@ -42,6 +52,29 @@ pub fn local_raised<E: Epochs>(ctx: &mut Ctx<'_, E>) -> (RawReading, Step)
     let cpu = ctx.seat.cpu();
     let step = ctx.words.raise(&mut ctx.seat, ctx.call, cpu, why);
     (raw, step)
+}
+
+/// A look at the mode.
+pub(crate) fn look<E: Epochs>(ctx: &mut Ctx<'_, E>) -> Mode
+    requires usable { IsUsable E.fits E.epoch ctx.old }
+    ensures keeps { Keeps E.fits E.epoch ctx.old ctx.new }
+    ensures time { ctx.new.time ≡ ctx.old.time }
+    ensures found { result ≡ PerCpu → HasFoundPerCpu ctx.new.seat.view }
+    ensures looks { ShowsLook (known_of E.epoch ctx.old) result (known_of E.epoch ctx.new) }
+{
+    ctx.words.look_mode(&mut ctx.seat)
+}
+
+// A stable reading: the raw reading, and its sum with the offset of the stable clock.
+fn local_stable<E: Epochs>(ctx: &mut Ctx<'_, E>) -> (RawReading, i64)
+    requires usable { IsUsable E.fits E.epoch ctx.old }
+    requires ticket { 1 ≤ ctx.old.time.left }
+    ensures keeps { Keeps E.fits E.epoch ctx.old ctx.new }
+    ensures spends { Spends 1 ctx.old.time ctx.new.time }
+    ensures shows { ShowsStable (site_of ctx.old) (known_of E.epoch ctx.old) result.0 result.1 (known_of E.epoch ctx.new) }
+{
+    let raw = ctx.epochs.read(&mut ctx.latch_seat, ctx.tickets, &mut ctx.time, ctx.counter);
+    (raw, raw.ns.wrapping_add(ctx.sched_offset))
 }
 
 // Loads what a reading goes by, the raw half of the pair first: a reader that is caught between the two stores of a stamp

@@ -1,4 +1,5 @@
-//! Callers of the reads, at the latch over words.
+//! Callers of the reads, at both latches.
+mod cell;
 mod fixtures;
 mod rows;
 mod threads;

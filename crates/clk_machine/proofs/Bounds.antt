@@ -11,13 +11,13 @@ use Rattle.clk_num.proofs.TrueTime.{convert_bounded}
 use Rattle.clk_num.proofs.Rating.{few_cycles}
 use Rattle.clk_num.proofs.Turning.{never_longer}
 use Rattle.clk_machine.specs.Plan.{Plan, CpuPlan, count_of, cpu_count}
-use Rattle.clk_machine.specs.Limits.{IsRateInKhz, IsWidth, IsCpu, AreJumps, AreInRange, IsWithinLimits}
+use Rattle.clk_machine.specs.Limits.{most_tickets, IsRateInKhz, IsWidth, IsCpu, AreJumps, AreInRange, IsWithinLimits}
 use Rattle.clk_machine.specs.Time.{time_at, cycles_in, count_at, shown, cpu_at, counter_at, reference_at, sched_rate, reference_rate}
 use Rattle.clk_machine.proofs.Halving.{delayed_few, jumped_near}
 
 -- ---- time
 
-pub time_below : (m : Plan) (k : ℕ) → AreInRange m → k < 2 ^ 24 → time_at m k < 3 * 2 ^ 38
+pub time_below : (m : Plan) (k : ℕ) → AreInRange m → k < most_tickets → time_at m k < 3 * 2 ^ 39
 time_below m k r h =
     let step = r.step.2 in
     let delays = r.delay.sum in
@@ -38,12 +38,12 @@ hertz_high : (khz : ℤ) → IsRateInKhz khz → count_of khz * 1000 < 2 ^ 32
 hertz_high khz r = let high = r.2 in omega arith
 
 -- the ns of a bounded conversion, where a cycle takes at most 1,000 ns
-at_most_thousand : (ns cyc from : ℕ) → 0 < from → 1000000000 ≤ 1000 * from → 4 * (ns * from) ≤ 4 * (cyc * 1000000000) + cyc * from → ns ≤ 1024 * cyc
+at_most_thousand : (ns cyc from : ℕ) → 0 < from → 1000000000 ≤ 1000 * from → 4 * (ns * from) ≤ 4 * (cyc * 1000000000) + cyc * from → ns ≤ 1001 * cyc
 at_most_thousand ns cyc from some low h =
     let most = mul-le-mul_left cyc low in
     le_of_mul-le-mul_right {k = from} (omega arith) some
 
-pub convert_small : (m : Plan) (cyc : ℕ) → AreInRange m → convert cyc (sched_rate m) ≤ 1024 * cyc
+pub convert_small : (m : Plan) (cyc : ℕ) → AreInRange m → convert cyc (sched_rate m) ≤ 1001 * cyc
 convert_small m cyc r =
     let from : ℕ = count_of m.nominal_khz * 1000 in
     let low = hertz_low m.nominal_khz r.nominal in
@@ -58,7 +58,7 @@ twice_the_time ns cyc time khz some whole few h =
     let most = mul-le-mul_right khz few in
     le_of_mul-le-mul_right {k = khz} (omega arith) some
 
-pub gtod_small : (m : Plan) (k : ℕ) → AreInRange m → k < 2 ^ 24 → convert (reference_at m k) (reference_rate m) ≤ 2 ^ 41
+pub gtod_small : (m : Plan) (k : ℕ) → AreInRange m → k < most_tickets → convert (reference_at m k) (reference_rate m) ≤ 2 ^ 42
 gtod_small m k r h =
     let khz = r.reference.khz in
     let one = khz.1 in
@@ -83,9 +83,9 @@ width_few bits (inr (inr e)) = rw e (omega arith, omega arith)
 pub cpu_in_range : (m : Plan) (cpu : ℕ) → AreInRange m → cpu < cpu_count m → IsCpu (cpu_count m) (cpu_at m cpu)
 cpu_in_range m cpu r h = r.cpu cpu _ h
 
--- how far the counter of a CPU went from where it began is at most 9 * 2^42 cycles
-count_high : (start : ℤ) (c : CpuPlan) (time : ℕ) → IsRateInKhz c.khz → AreJumps c.jumps → time < 3 * 2 ^ 38
-    → count_at start c.khz c.jumps time ≤ℤ (start +ℤ pos (5 * 2 ^ 42))
+-- how far the counter of a CPU went from where it began is at most 11 * 2^41 cycles
+count_high : (start : ℤ) (c : CpuPlan) (time : ℕ) → IsRateInKhz c.khz → AreJumps c.jumps → time < 3 * 2 ^ 39
+    → count_at start c.khz c.jumps time ≤ℤ (start +ℤ pos (11 * 2 ^ 41))
 count_high start c time khz jumps few =
     let (low, high) = jumped_near time c.jumps jumps in
     let cycles = cycles_few c.khz time khz in
@@ -99,32 +99,32 @@ abbrev pub count_of_cpu : Plan → ℕ → ℤ → ℕ → ℤ
 count_of_cpu m cpu adjust k = let c = cpu_at m cpu in count_at (c.offset +ℤ adjust) c.khz c.jumps (time_at m k)
 
 -- by an adjustment of at most n cycles, how far the count of a CPU is
-count_adjusted : (m : Plan) (cpu : ℕ) (adjust : ℤ) (n k : ℕ) → IsWithinLimits m → cpu < cpu_count m → adjust ≤ℤ pos n → k < 2 ^ 24
-    → count_of (count_of_cpu m cpu adjust k) ≤ n + 9 * 2 ^ 42
+count_adjusted : (m : Plan) (cpu : ℕ) (adjust : ℤ) (n k : ℕ) → IsWithinLimits m → cpu < cpu_count m → adjust ≤ℤ pos n → k < most_tickets
+    → count_of (count_of_cpu m cpu adjust k) ≤ n + 19 * 2 ^ 41
 count_adjusted m cpu adjust n k l h upper small =
     let c = cpu_in_range m cpu l.ranges h in
     let (low, high) = c.offset in
     let far = count_high ((cpu_at m cpu).offset +ℤ adjust) (cpu_at m cpu) (time_at m k) c.khz c.jumps (time_below m k l.ranges small) in
-    count_at_most (count_of_cpu m cpu adjust k) (n + 9 * 2 ^ 42) (omega (arith, ints, far, upper, high))
+    count_at_most (count_of_cpu m cpu adjust k) (n + 19 * 2 ^ 41) (omega (arith, ints, far, upper, high))
 
-pub count_small : (m : Plan) (cpu : ℕ) (adjust : ℤ) (k : ℕ) → IsWithinLimits m → cpu < cpu_count m → IsNear 47 adjust → k < 2 ^ 24
-    → count_of (count_of_cpu m cpu adjust k) ≤ 41 * 2 ^ 42
+pub count_small : (m : Plan) (cpu : ℕ) (adjust : ℤ) (k : ℕ) → IsWithinLimits m → cpu < cpu_count m → IsNear 47 adjust → k < most_tickets
+    → count_of (count_of_cpu m cpu adjust k) ≤ 83 * 2 ^ 41
 count_small m cpu adjust k l h near small = let most = count_adjusted m cpu adjust (2 ^ 47) k l h near.1 small in omega (arith, most)
 
 -- no counter shows more than was counted
-counter_adjusted : (m : Plan) (cpu : ℕ) (adjust : ℤ) (n k : ℕ) → IsWithinLimits m → cpu < cpu_count m → adjust ≤ℤ pos n → k < 2 ^ 24
-    → counter_at m cpu adjust k ≤ n + 9 * 2 ^ 42
+counter_adjusted : (m : Plan) (cpu : ℕ) (adjust : ℤ) (n k : ℕ) → IsWithinLimits m → cpu < cpu_count m → adjust ≤ℤ pos n → k < most_tickets
+    → counter_at m cpu adjust k ≤ n + 19 * 2 ^ 41
 counter_adjusted m cpu adjust n k l h upper small =
     let most = count_adjusted m cpu adjust n k l h upper small in
     let shows = mod-le (count_of (count_of_cpu m cpu adjust k)) (2 ^ count_of m.bits) in
     omega (arith, most, shows)
 
-pub counter_small : (m : Plan) (cpu : ℕ) (adjust : ℤ) (k : ℕ) → IsWithinLimits m → cpu < cpu_count m → IsNear 47 adjust → k < 2 ^ 24
-    → counter_at m cpu adjust k ≤ 41 * 2 ^ 42
+pub counter_small : (m : Plan) (cpu : ℕ) (adjust : ℤ) (k : ℕ) → IsWithinLimits m → cpu < cpu_count m → IsNear 47 adjust → k < most_tickets
+    → counter_at m cpu adjust k ≤ 83 * 2 ^ 41
 counter_small m cpu adjust k l h near small = let most = counter_adjusted m cpu adjust (2 ^ 47) k l h near.1 small in omega (arith, most)
 
-pub counter_small_twice : (m : Plan) (cpu : ℕ) (adjust : ℤ) (k : ℕ) → IsWithinLimits m → cpu < cpu_count m → IsNear 48 adjust → k < 2 ^ 24
-    → counter_at m cpu adjust k ≤ 73 * 2 ^ 42
+pub counter_small_twice : (m : Plan) (cpu : ℕ) (adjust : ℤ) (k : ℕ) → IsWithinLimits m → cpu < cpu_count m → IsNear 48 adjust → k < most_tickets
+    → counter_at m cpu adjust k ≤ 147 * 2 ^ 41
 counter_small_twice m cpu adjust k l h near small = let most = counter_adjusted m cpu adjust (2 ^ 48) k l h near.1 small in omega (arith, most)
 
 -- what the width leaves of the difference of two small counts

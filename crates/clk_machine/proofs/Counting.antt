@@ -7,7 +7,7 @@ use Rattle.std.proofs.lemmas.List.Sums.{sum_by-cons, sum_by-append, sum_by_push}
 use Rattle.clk_machine.specs.declared.script.Word.{Word}
 use Rattle.clk_machine.specs.declared.script.Word.TheVariants.{Local, Remote, Tick, Idle, Update, Pause}
 use Rattle.clk_machine.specs.Plan.{Plan, ScriptPlan, CpuPlan, ReaderPlan, count_of, all_words, threads_of}
-use Rattle.clk_machine.specs.Limits.{IsInRange, IsScript}
+use Rattle.clk_machine.specs.Limits.{longest_pause, IsInRange, IsScript}
 use Rattle.clk_machine.specs.Ranges.{script_length}
 use Rattle.clk_machine.specs.Short.{IsShort}
 use Rattle.clk_machine.specs.Tickets.{tickets_of, word_tickets}
@@ -22,7 +22,7 @@ sum_at view f xs i x h at =
     rw (take_more (map view xs) i (view x) low, e) (sum_by_push f (take i (map view xs)) (view x))
 
 -- many repeats of few words, or few repeats of many
-pub product_few : (repeats tickets words : ℕ) → tickets ≤ words * 2 ^ 24 → words * repeats ≤ 65536 → repeats * tickets ≤ 2 ^ 40
+pub product_few : (repeats tickets words : ℕ) → tickets ≤ words * longest_pause → words * repeats ≤ 65536 → repeats * tickets ≤ 2 ^ 40
 product_few repeats tickets words t w = let most = mul-le-mul_left repeats t in omega arith
 
 -- ---- repeats

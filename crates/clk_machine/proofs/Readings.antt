@@ -11,7 +11,7 @@ use Rattle.clk_num.proofs.Wraps.{wrapped}
 use Rattle.clk_num.proofs.Heights.{above_same}
 use Rattle.clk_machine.specs.Plan.{Plan, count_of, cpu_count}
 use Rattle.clk_machine.specs.Time.{counter_at, shown, sched_rate}
-use Rattle.clk_machine.specs.Limits.{AreInRange}
+use Rattle.clk_machine.specs.Limits.{most_tickets, AreInRange}
 use Rattle.clk_machine.specs.Records.{record_zero, base_of, above_base, raw_by, IsNextRecord, AreNextRecords, AreRecords}
 use Rattle.clk_machine.specs.Laws.{IsAdjusted, AreInOrder, CountersAreSmall, CountersAdjustedTwiceAreSmall, RecordsAreSmall, ReadingsAreSmall, FirstReadingsAreSmall}
 use Rattle.clk_machine.specs.declared.reading.Published.{Published}
@@ -30,8 +30,8 @@ more_above : (value other : ℤ) (n most : ℕ) → IsFrom0To most (above value 
 more_above value other n most (low, high) few = omega (arith, ints, clamps, wrapped)
 
 -- what a record adds at most for a counter value that is not far
-added : (m : Plan) (p : Published) (cyc most far : ℕ) → AreInRange m → IsFrom0To most (above_base m p.ns) → most + 1024 * far < 2 ^ 63
-    → masked_delta cyc p.cyc (count_of m.bits) ≤ far → IsFrom0To (most + 1024 * far) (above_base m (raw_by m p cyc))
+added : (m : Plan) (p : Published) (cyc most far : ℕ) → AreInRange m → IsFrom0To most (above_base m p.ns) → most + 1001 * far < 2 ^ 63
+    → masked_delta cyc p.cyc (count_of m.bits) ≤ far → IsFrom0To (most + 1001 * far) (above_base m (raw_by m p cyc))
 added m p cyc most far r (low, high) few less =
     let some = convert_small m (masked_delta cyc p.cyc (count_of m.bits)) r in
     let more = more_above p.ns (base_of m) (convert (masked_delta cyc p.cyc (count_of m.bits)) (sched_rate m)) most (low, high) (omega (arith, some)) in
@@ -43,24 +43,24 @@ from_0_to_more a b ns h (low, high) = (low, omega (arith, ints))
 -- a record that shows the CPU's own counter, as all after record 0 do
 record IsOwnRecord (m : Plan) (cpu : ℕ) (adjust : ℤ) (p : Published) : Type 0 where
   counter : p.cyc ≡ counter_at m cpu adjust p.ticket
-  ticket : p.ticket < 2 ^ 24
-  few : IsFrom0To (41 * 2 ^ 52 + 1024 * travel m cpu p.ticket) (above_base m p.ns)
+  ticket : p.ticket < most_tickets
+  few : IsFrom0To (1001 * (83 * 2 ^ 41) + 1001 * travel m cpu p.ticket) (above_base m p.ns)
 
 own_next : (m : Plan) (cpu : ℕ) (adjust : ℤ) (last p : Published) → IsAdjusted m cpu adjust → IsOwnRecord m cpu adjust last
-    → IsNextRecord m cpu adjust last p → last.ticket ≤ p.ticket → p.ticket < 2 ^ 24 → IsOwnRecord m cpu adjust p
+    → IsNextRecord m cpu adjust last p → last.ticket ≤ p.ticket → p.ticket < most_tickets → IsOwnRecord m cpu adjust p
 own_next m cpu adjust last p a own n later small =
     let way = differ_by_travel m cpu adjust last.ticket p.ticket a.limits.ranges later in
     let less : masked_delta p.cyc last.cyc (count_of m.bits) ≤ travel m cpu p.ticket - travel m cpu last.ticket = rw (n.counter, own.counter) (omega (arith, way)) in
     let far = travel_few m cpu p.ticket a.limits.ranges a.there small in
-    let more = added m last p.cyc (41 * 2 ^ 52 + 1024 * travel m cpu last.ticket) (travel m cpu p.ticket - travel m cpu last.ticket) a.limits.ranges own.few (omega (arith, way, far)) less in
-    let wider = from_0_to_more _ (41 * 2 ^ 52 + 1024 * travel m cpu p.ticket) (above_base m (raw_by m last p.cyc)) (omega (arith, way)) more in
+    let more = added m last p.cyc (1001 * (83 * 2 ^ 41) + 1001 * travel m cpu last.ticket) (travel m cpu p.ticket - travel m cpu last.ticket) a.limits.ranges own.few (omega (arith, way, far)) less in
+    let wider = from_0_to_more _ (1001 * (83 * 2 ^ 41) + 1001 * travel m cpu p.ticket) (above_base m (raw_by m last p.cyc)) (omega (arith, way)) more in
     record { counter = n.counter; ticket = small; few = rw n.time wider }
 
 -- what holds of all records: each shows a count that is not far, and its ns are few
 record IsSmallRecord (m : Plan) (p : Published) : Type 0 where
   count : ℤ
   counter : p.cyc ≡ shown m.bits count
-  far : count_of count ≤ 41 * 2 ^ 42
+  far : count_of count ≤ 83 * 2 ^ 41
   few : IsFrom0To (46 * 2 ^ 52) (above_base m p.ns)
 
 own_small : (m : Plan) (cpu : ℕ) (adjust : ℤ) (p : Published) → IsAdjusted m cpu adjust → IsOwnRecord m cpu adjust p → IsSmallRecord m p
@@ -97,14 +97,14 @@ zero_small m cpu adjust a =
 
 -- the first update goes on from the counter of CPU 0
 own_first : (m : Plan) (cpu : ℕ) (adjust : ℤ) (p : Published) → IsAdjusted m cpu adjust → IsNextRecord m cpu adjust (record_zero m) p
-    → p.ticket < 2 ^ 24 → IsOwnRecord m cpu adjust p
+    → p.ticket < most_tickets → IsOwnRecord m cpu adjust p
 own_first m cpu adjust p a n small =
     let far = count_small m cpu adjust p.ticket a.limits a.there a.near small in
     let near = count_small m 0 (pos 0) 0 a.limits (omega (arith, a.there)) zero_near (omega arith) in
-    let most = masked_small m (count_of_cpu m cpu adjust p.ticket) (count_of_cpu m 0 (pos 0) 0) (41 * 2 ^ 42) a.limits.ranges far near in
-    let less : masked_delta p.cyc (counter_at m 0 (pos 0) 0) (count_of m.bits) ≤ 41 * 2 ^ 42 = rw n.counter most in
-    let more = added m (record_zero m) p.cyc 0 (41 * 2 ^ 42) a.limits.ranges (zero_few m 0) (omega arith) less in
-    let wider = from_0_to_more _ (41 * 2 ^ 52 + 1024 * travel m cpu p.ticket) (above_base m (raw_by m (record_zero m) p.cyc)) (omega arith) more in
+    let most = masked_small m (count_of_cpu m cpu adjust p.ticket) (count_of_cpu m 0 (pos 0) 0) (83 * 2 ^ 41) a.limits.ranges far near in
+    let less : masked_delta p.cyc (counter_at m 0 (pos 0) 0) (count_of m.bits) ≤ 83 * 2 ^ 41 = rw n.counter most in
+    let more = added m (record_zero m) p.cyc 0 (83 * 2 ^ 41) a.limits.ranges (zero_few m 0) (omega arith) less in
+    let wider = from_0_to_more _ (1001 * (83 * 2 ^ 41) + 1001 * travel m cpu p.ticket) (above_base m (raw_by m (record_zero m) p.cyc)) (omega arith) more in
     record { counter = n.counter; ticket = small; few = rw n.time wider }
 
 updates_small : (m : Plan) (cpu : ℕ) (adjust : ℤ) (ps : List Published) → IsAdjusted m cpu adjust → AreNextRecords m cpu adjust (record_zero m) ps
@@ -127,9 +127,10 @@ pub readings_are_small : ReadingsAreSmall
 readings_are_small m cpu adjust records r a all o small right =
     let p = all_small m cpu adjust records a all o r.rec (record_zero m) right.number in
     let far = count_small m cpu adjust r.ticket a.limits a.there a.near small in
-    let most = masked_small m (count_of_cpu m cpu adjust r.ticket) p.count (41 * 2 ^ 42) a.limits.ranges far p.far in
-    let less : masked_delta r.cyc (get_or records r.rec (record_zero m)).cyc (count_of m.bits) ≤ 41 * 2 ^ 42 = rw (right.counter, p.counter) most in
-    rw right.time (added m (get_or records r.rec (record_zero m)) r.cyc (46 * 2 ^ 52) (41 * 2 ^ 42) a.limits.ranges p.few (omega arith) less)
+    let most = masked_small m (count_of_cpu m cpu adjust r.ticket) p.count (83 * 2 ^ 41) a.limits.ranges far p.far in
+    let less : masked_delta r.cyc (get_or records r.rec (record_zero m)).cyc (count_of m.bits) ≤ 83 * 2 ^ 41 = rw (right.counter, p.counter) most in
+    let near = added m (get_or records r.rec (record_zero m)) r.cyc (46 * 2 ^ 52) (83 * 2 ^ 41) a.limits.ranges p.few (omega arith) less in
+    rw right.time (from_0_to_more _ (87 * 2 ^ 52) (above_base m (raw_by m (get_or records r.rec (record_zero m)) r.cyc)) (omega arith) near)
 
 one_cpu : (m : Plan) → AreInRange m → 0 < cpu_count m
 one_cpu m r = let some = rw r.cpu_each at r.cpus in omega (arith, some.1)
@@ -138,6 +139,7 @@ pub first_readings_are_small : FirstReadingsAreSmall
 first_readings_are_small m records r l all first small right =
     let few = travel_few m 0 r.ticket l.ranges (one_cpu m l.ranges) small in
     let way = differ_by_travel m 0 (pos 0) 0 r.ticket l.ranges (omega arith) in
-    let less : masked_delta r.cyc (record_zero m).cyc (count_of m.bits) ≤ 5 * 2 ^ 42 = rw right.counter (omega (arith, few, way)) in
+    let less : masked_delta r.cyc (record_zero m).cyc (count_of m.bits) ≤ 11 * 2 ^ 41 = rw right.counter (omega (arith, few, way)) in
     let zero : get_or records r.rec (record_zero m) ≡ record_zero m = rw (first, all.all) refl in
-    rw (right.time, zero) (added m (record_zero m) r.cyc 0 (5 * 2 ^ 42) l.ranges (zero_few m 0) (omega arith) less)
+    let near = added m (record_zero m) r.cyc 0 (11 * 2 ^ 41) l.ranges (zero_few m 0) (omega arith) less in
+    rw (right.time, zero) (from_0_to_more _ (6 * 2 ^ 52) (above_base m (raw_by m (record_zero m) r.cyc)) (omega arith) near)

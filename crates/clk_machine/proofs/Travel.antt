@@ -6,7 +6,7 @@ use Rattle.std.proofs.lemmas.List.Sums.{sum_by-cons}
 use Rattle.std.proofs.Math.Nat.{mul-le-mul_right}
 use Rattle.clk_num.specs.Masked.{masked_delta}
 use Rattle.clk_machine.specs.Plan.{Plan, JumpPlan, DelayPlan, count_of, cpu_count}
-use Rattle.clk_machine.specs.Limits.{jump_sizes, AreInRange}
+use Rattle.clk_machine.specs.Limits.{most_tickets, jump_sizes, AreInRange}
 use Rattle.clk_machine.specs.Time.{delayed, time_at, cycles_in, jumped, count_at, cpu_at, counter_at}
 use Rattle.clk_machine.proofs.Bounds.{time_below, cycles_few, cpu_in_range, differ_less}
 
@@ -96,7 +96,7 @@ travel m cpu k =
     let c = cpu_at m cpu in
     cycles_in c.khz (time_at m k) + sizes_by (time_at m k) c.jumps
 
-pub travel_few : (m : Plan) (cpu k : ℕ) → AreInRange m → cpu < cpu_count m → k < 2 ^ 24 → travel m cpu k ≤ 5 * 2 ^ 42
+pub travel_few : (m : Plan) (cpu k : ℕ) → AreInRange m → cpu < cpu_count m → k < most_tickets → travel m cpu k ≤ 11 * 2 ^ 41
 travel_few m cpu k r h small =
     let c = cpu_in_range m cpu r h in
     let cycles = cycles_few (cpu_at m cpu).khz (time_at m k) c.khz in

@@ -1,5 +1,7 @@
+pub mod Rows
 pub mod Plan
 pub mod Time
+pub mod Timeouts
 pub mod Tickets
 pub mod Limits
 pub mod Short

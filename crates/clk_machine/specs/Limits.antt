@@ -1,5 +1,6 @@
 -- The limits that every machine meets.
-use Rattle.std.specs.Prelude.{◌≡◌, ℕ, ◌-◌, ◌^◌, ◌<◌, ◌≤◌, ◌⊎◌, Bool, true, false, ℤ, pos, negsuc, nat_abs, ◌≤ℤ◌, ◌<ℤ◌, List, [], ◌∷◌, length, Option, Some, None}
+use Rattle.std.specs.Prelude.{◌≡◌, ℕ, ◌-◌, ◌^◌, ◌<◌, ◌≤◌, ◌⊎◌, Bool, true, false, ℤ, pos, negsuc, nat_abs, ◌≤ℤ◌, ◌<ℤ◌, List, [], ◌∷◌, length, Option, Some, None, if◌then◌else◌}
+use Rattle.std.specs.Ordering.{int_eq}
 use Rattle.std.specs.List.{All, sum_by, count_by}
 use Rattle.clk_num.specs.Range.{IsNear}
 use Rattle.clk_machine.specs.declared.script.Word.{Word}
@@ -14,6 +15,24 @@ use Rattle.clk_machine.specs.Tickets.{tickets_needed}
 abbrev pub IsWithin : ℕ → ℕ → ℤ → Type 0
 IsWithin low high z = (z ≡ pos (count_of z)) × (low ≤ count_of z) × (count_of z ≤ high)
 
+-- a file of version 2 may have more CPUs and more tickets
+abbrev pub is_second : ℤ → Bool
+is_second version = int_eq version (pos 2)
+
+abbrev pub most_cpus : ℤ → ℕ
+most_cpus version = if is_second version then 64 else 16
+
+-- the tickets that a run may draw: by the version, and at most
+abbrev pub ticket_limit : ℤ → ℕ
+ticket_limit version = if is_second version then 2 ^ 26 else 2 ^ 24
+
+abbrev pub most_tickets : ℕ
+most_tickets = 2 ^ 26
+
+-- the tickets of a pause
+abbrev pub longest_pause : ℕ
+longest_pause = 2 ^ 24
+
 -- a counter has 32, 56 or 64 bits, and runs at 1 MHz to 4 GHz
 abbrev pub IsWidth : ℤ → Type 0
 IsWidth bits = (bits ≡ pos 32) ⊎ ((bits ≡ pos 56) ⊎ (bits ≡ pos 64))
@@ -21,13 +40,13 @@ IsWidth bits = (bits ≡ pos 32) ⊎ ((bits ≡ pos 56) ⊎ (bits ≡ pos 64))
 abbrev pub IsRateInKhz : ℤ → Type 0
 IsRateInKhz khz = IsWithin 1000 4000000 khz
 
--- a remote reading names a CPU, and a pause is 1 to 2^24 tickets long
+-- a remote reading names a CPU, and a pause has its limit
 abbrev pub IsNumberOfCpu : ℕ → ℤ → Type 0
 IsNumberOfCpu cpus z = (z ≡ pos (count_of z)) × (count_of z < cpus)
 
 abbrev pub IsInRange : ℕ → Word → Type 0
 IsInRange cpus (Remote d) = IsNumberOfCpu cpus d
-IsInRange cpus (Pause n) = IsWithin 1 (2 ^ 24) n
+IsInRange cpus (Pause n) = IsWithin 1 longest_pause n
 IsInRange cpus _ = Unit {0}
 
 -- a reader makes readings and pauses alone
@@ -66,9 +85,9 @@ abbrev pub TicketsRise : ℤ → List DelayPlan → Type 0
 TicketsRise before [] = Unit {0}
 TicketsRise before (d ∷ delays) = (before <ℤ d.ticket) × TicketsRise d.ticket delays
 
-pub record AreDelays (delays : List DelayPlan) : Type 0 where
+pub record AreDelays (limit : ℕ) (delays : List DelayPlan) : Type 0 where
   pub few : length delays ≤ 1024
-  pub tickets : All (λ d. IsWithin 0 (2 ^ 24 - 1) d.ticket) delays
+  pub tickets : All (λ d. IsWithin 0 (limit - 1) d.ticket) delays
   pub rise : TicketsRise (negsuc 0) delays
   pub ns : All (λ d. IsWithin 0 (2 ^ 39) d.ns) delays
   pub sum : sum_by (λ d. count_of d.ns) delays ≤ 2 ^ 39
@@ -82,6 +101,7 @@ pub record IsReference (r : ReferencePart) : Type 0 where
 pub record IsCpu (cpus : ℕ) (c : CpuPlan) : Type 0 where
   pub khz : IsRateInKhz c.khz
   pub offset : IsNear 44 c.offset
+  pub socket : IsWithin 0 63 c.socket
   pub jumps : AreJumps c.jumps
   pub script : IsScript cpus c.script
 
@@ -92,6 +112,7 @@ pub record IsReader (cpus : ℕ) (r : ReaderPlan) : Type 0 where
 
 pub record IsBringUp (b : BringUpPart) : Type 0 where
   pub timeout : IsWithin 0 1000000 b.timeout_us
+  pub first : IsWithin 0 1000000 b.first_us
   pub turns : IsWithin 0 4096 b.turns
 
 pub record IsWatch (w : WatchPart) : Type 0 where
@@ -119,7 +140,8 @@ IfThere P (Some part) = P part
 
 -- all numbers of the machine are in range
 pub record AreInRange (m : Plan) : Type 0 where
-  pub cpus : IsWithin 1 16 m.cpus
+  pub version : IsWithin 1 2 m.version
+  pub cpus : IsWithin 1 (most_cpus m.version) m.cpus
   pub cpu_each : m.cpus ≡ pos (cpu_count m)
   pub step : IsWithin 1 (2 ^ 14) m.step
   pub tick : IsWithin 1 (2 ^ 30) m.tick
@@ -130,7 +152,7 @@ pub record AreInRange (m : Plan) : Type 0 where
   pub readers : length m.reader ≤ 16
   pub reader : All (IsReader (cpu_count m)) m.reader
   pub words_few : sum_by (λ t. length t.1) (threads_of m) ≤ 524288
-  pub delay : AreDelays m.delay
+  pub delay : AreDelays (ticket_limit m.version) m.delay
   pub bringup : IfThere IsBringUp m.bringup
   pub watchdog : IfThere IsWatch m.watchdog
   pub sources : length m.source ≤ 8
@@ -140,4 +162,4 @@ pub record AreInRange (m : Plan) : Type 0 where
 
 pub record IsWithinLimits (m : Plan) : Type 0 where
   pub ranges : AreInRange m
-  pub tickets : tickets_needed m ≤ 2 ^ 24
+  pub tickets : tickets_needed m ≤ ticket_limit m.version

@@ -30,6 +30,7 @@ pub record DelayPlan : Type 0 where
 pub record CpuPlan : Type 0 where
   pub khz : ℤ
   pub offset : ℤ
+  pub socket : ℤ
   pub jumps : List JumpPlan
   pub script : ScriptPlan
 
@@ -47,6 +48,8 @@ pub record SourcePlan : Type 0 where
   pub jumps : List JumpPlan
 
 pub record Plan : Type 0 where
+  pub version : ℤ
+  pub base : ℤ
   pub cpus : ℤ
   pub step : ℤ
   pub tick : ℤ
@@ -73,7 +76,13 @@ abbrev pub delay_plan : Delay → DelayPlan
 delay_plan d = record { ticket = d.ticket; ns = d.ns }
 
 abbrev pub cpu_plan : CpuPart → CpuPlan
-cpu_plan c = record { khz = c.khz; offset = c.offset; jumps = map jump_plan c.jumps.items; script = script_plan c.script }
+cpu_plan c = record {
+  khz = c.khz;
+  offset = c.offset;
+  socket = c.socket;
+  jumps = map jump_plan c.jumps.items;
+  script = script_plan c.script;
+}
 
 abbrev pub reader_plan : ReaderPart → ReaderPlan
 reader_plan r = record { cpu = r.cpu; script = script_plan r.script }
@@ -91,6 +100,8 @@ source_plan s = record {
 
 abbrev pub plan_of : Parts → Plan
 plan_of p = record {
+  version = p.version;
+  base = p.base;
   cpus = p.cpus;
   step = p.step;
   tick = p.tick;

@@ -10,7 +10,7 @@ use Rattle.clk_machine.specs.declared.reading.Published.{Published}
 
 -- the ns at which the clocks of a machine begin, and how far a clock value is above them
 unfoldable pub base_of : Plan → ℤ
-base_of m = pos 0
+base_of m = m.base
 
 abbrev pub above_base : Plan → ℤ → ℤ
 above_base m ns = above ns (base_of m)

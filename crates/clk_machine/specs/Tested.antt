@@ -1,10 +1,10 @@
 -- What the code's tests answer. No public contract cites these.
-use Rattle.std.specs.Prelude.{◌≡◌, ℕ, ◌*◌, ◌^◌, ◌≤◌, true, false, ℤ, pos, Option, Some, None, MatchOption, Result, MatchResult}
+use Rattle.std.specs.Prelude.{◌≡◌, ℕ, ◌*◌, ◌≤◌, true, false, ℤ, pos, Option, Some, None, MatchOption, Result, MatchResult}
 use Rattle.clk_machine.specs.declared.script.Word.{Word}
 use Rattle.clk_machine.specs.declared.script.Word.TheVariants.{Pause}
 use Rattle.std.specs.List.{All, sum_by}
 use Rattle.clk_machine.specs.Plan.{ScriptPlan, count_of}
-use Rattle.clk_machine.specs.Limits.{IsWithin}
+use Rattle.clk_machine.specs.Limits.{IsWithin, longest_pause}
 use Rattle.clk_machine.specs.Short.{IsShort}
 use Rattle.clk_machine.specs.Tickets.{tickets_of}
 use Rattle.clk_machine.specs.Ranges.{Test, is_between, script_length}
@@ -20,9 +20,9 @@ abbrev pub NumberIn : ℕ → ℕ → ℤ → Option ℕ → Type 0
 NumberIn low high value number =
     MatchOption number (is_between low high value ≡ false) (λ n. (is_between low high value ≡ true) × (value ≡ pos n) × (n ≤ high))
 
--- where the word is a pause, how long it is is a count from 1 to 2^24
+-- where the word is a pause, how long it is is a count within its limit
 abbrev pub HasCount : Word → Type 0
-HasCount (Pause n) = IsWithin 1 (2 ^ 24) n
+HasCount (Pause n) = IsWithin 1 longest_pause n
 HasCount _ = Unit {0}
 
 -- the tickets of a script's words, as many times as they are repeated

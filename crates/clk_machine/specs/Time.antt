@@ -33,7 +33,7 @@ abbrev pub shown : ℤ → ℤ → ℕ
 shown bits count = low_bits (count_of bits) (count_of count)
 
 abbrev pub cpu_at : Plan → ℕ → CpuPlan
-cpu_at m cpu = slice_index_or m.cpu cpu (record { khz = pos 0; offset = pos 0; jumps = []; script = record { repeat = pos 0; words = [] } })
+cpu_at m cpu = slice_index_or m.cpu cpu (record { khz = pos 0; offset = pos 0; socket = pos 0; jumps = []; script = record { repeat = pos 0; words = [] } })
 
 -- the counter of a CPU with this adjustment
 abbrev pub counter_at : Plan → ℕ → ℤ → ℕ → ℕ

@@ -1,8 +1,9 @@
 //! What a counter shows at a time, and which delays and jumps came by then. Both are found by halving.
 ghost use Rattle.std.specs.Prelude.{◌≡◌, ◌*◌, ◌^◌, ◌<◌, ◌≤◌, pos, negsuc, int_le, map};
+ghost use Rattle.std.specs.List.{sum_by};
 ghost use Rattle.clk_num.specs.Range.{IsNear};
-ghost use Rattle.clk_machine.specs.Plan.{delay_plan, jump_plan};
-ghost use Rattle.clk_machine.specs.Limits.{IsWidth, TicketsRise, AreDelays, TimesRise, AreJumps};
+ghost use Rattle.clk_machine.specs.Plan.{delay_plan, jump_plan, count_of};
+ghost use Rattle.clk_machine.specs.Limits.{most_tickets, IsWidth, TicketsRise, TimesRise, AreJumps};
 ghost use Rattle.clk_machine.specs.Sums.{PassesUpTo, HasDelaySums, HasJumpSums};
 ghost use Rattle.clk_machine.specs.Time.{delayed, jumped, cycles_in as cycles_of, count_at, shown};
 
@@ -14,7 +15,7 @@ const NS_PER_MS: u64 = 1_000_000;
 
 /// How many delays are at tickets up to `k`.
 fn delays_passed(delays: &[Delay], k: u64) -> usize
-    requires ticket { k < 2 ^ 24 }
+    requires ticket { k < most_tickets }
     requires rise { TicketsRise (negsuc 0) (map delay_plan delays.now) }
     ensures { PassesUpTo (λ d. int_le d.ticket (pos k)) delays.now result }
 {
@@ -28,8 +29,9 @@ fn delays_passed(delays: &[Delay], k: u64) -> usize
 
 /// The ns of the delays at tickets up to `k`.
 pub(crate) fn delay_until(delays: &[Delay], k: u64) -> u64
-    requires ticket { k < 2 ^ 24 }
-    requires delays { AreDelays (map delay_plan delays.now) }
+    requires ticket { k < most_tickets }
+    requires rise { TicketsRise (negsuc 0) (map delay_plan delays.now) }
+    requires few { sum_by (λ d. count_of d.ns) (map delay_plan delays.now) ≤ 2 ^ 39 }
     requires sums { HasDelaySums delays.now }
     ensures ns { result ≡ delayed k (map delay_plan delays.now) }
     ensures few { result ≤ 2 ^ 39 }
@@ -44,7 +46,7 @@ pub(crate) fn delay_until(delays: &[Delay], k: u64) -> u64
 
 /// How many jumps are at times up to this one.
 fn jumps_passed(jumps: &[Jump], time: u64) -> usize
-    requires time { time < 2 ^ 40 }
+    requires time { time < 2 ^ 41 }
     requires rise { TimesRise (pos 0) (map jump_plan jumps.now) }
     ensures { PassesUpTo (λ j. int_le j.at (pos time)) jumps.now result }
 {
@@ -58,7 +60,7 @@ fn jumps_passed(jumps: &[Jump], time: u64) -> usize
 
 /// The cycles of the jumps up to a time.
 fn jump_until(jumps: &[Jump], time: u64) -> i64
-    requires time { time < 2 ^ 40 }
+    requires time { time < 2 ^ 41 }
     requires jumps { AreJumps (map jump_plan jumps.now) }
     requires sums { HasJumpSums jumps.now }
     ensures cycles { result ≡ jumped time (map jump_plan jumps.now) }
@@ -77,7 +79,7 @@ pub(crate) fn shown_at(bits: u32, start: &i64, khz: u64, jumps: &[Jump], time: u
     requires bits { IsWidth (pos bits) }
     requires start { IsNear 49 start.now }
     requires khz { khz ≤ 4000000 }
-    requires time { time < 2 ^ 40 }
+    requires time { time < 2 ^ 41 }
     requires jumps { AreJumps (map jump_plan jumps.now) }
     requires sums { HasJumpSums jumps.now }
     ensures { result ≡ shown (pos bits) (count_at start.now (pos khz) (map jump_plan jumps.now) time) }
@@ -88,7 +90,7 @@ pub(crate) fn shown_at(bits: u32, start: &i64, khz: u64, jumps: &[Jump], time: u
 /// The cycles of a rate in kHz in so many ns, rounded down.
 pub(crate) fn cycles_in(khz: u64, time: u64) -> u64
     requires khz { khz ≤ 4000000 }
-    requires time { time < 2 ^ 40 }
+    requires time { time < 2 ^ 41 }
     ensures cycles { result ≡ cycles_of (pos khz) time }
     ensures small { result ≤ 4 * time }
 {
@@ -99,7 +101,7 @@ pub(crate) fn cycles_in(khz: u64, time: u64) -> u64
 fn count_by(start: &i64, khz: u64, jumps: &[Jump], time: u64) -> i64
     requires start { IsNear 49 start.now }
     requires khz { khz ≤ 4000000 }
-    requires time { time < 2 ^ 40 }
+    requires time { time < 2 ^ 41 }
     requires jumps { AreJumps (map jump_plan jumps.now) }
     requires sums { HasJumpSums jumps.now }
     ensures { result ≡ count_at start.now (pos khz) (map jump_plan jumps.now) time }

@@ -1,3 +1,4 @@
+//! Why numbers are no machine.
 use crate::place::Place;
 use thiserror::Error;
 
@@ -10,7 +11,7 @@ pub enum MachineError {
     /// The CPU that is named at this place is none of the machine's.
     #[error("no such CPU")]
     Cpu(Place),
-    /// The run needs so many tickets, more than 2^24.
+    /// The run needs so many tickets, more than 2^24, or in version 2 more than 2^26.
     #[error("too many tickets")]
     Tickets { needed: u64 },
 }

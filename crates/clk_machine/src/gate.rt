@@ -1,3 +1,5 @@
+//! What a step of a script passes before it is made.
+
 /// What each step of a script passes before it is made, so that a test can hold a thread there or note what it was given.
 /// It has no meaning for the run, and it returns.
 ///

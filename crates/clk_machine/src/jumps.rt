@@ -9,6 +9,7 @@ ghost use Rattle.clk_machine.specs.Tested.{Tested};
 use crate::error::MachineError;
 use crate::parts::Jump;
 use crate::ranges::{at_most, number_in, value_at};
+use crate::rows::Row;
 use clk_num::List;
 
 /// The most jumps of a counter.
@@ -21,7 +22,7 @@ const MAX_TIME: u64 = 1 << 41;
 const MAX_SIZE: u64 = 1 << 44;
 
 /// The test of a counter's jumps, at their row of the file and the counter's entry.
-pub(crate) fn test_jumps(row: u32, entry: u32, jumps: &List<Jump>) -> Option<MachineError>
+pub(crate) fn test_jumps(row: Row, entry: u32, jumps: &List<Jump>) -> Option<MachineError>
     requires { IsShort jumps.now.items }
     ensures { result ≡ jumps_test row entry (map jump_plan jumps.now.items) }
 {
@@ -29,7 +30,7 @@ pub(crate) fn test_jumps(row: u32, entry: u32, jumps: &List<Jump>) -> Option<Mac
 }
 
 /// The test of each jump.
-fn test_each(row: u32, entry: u32, jumps: &[Jump]) -> Option<MachineError>
+fn test_each(row: Row, entry: u32, jumps: &[Jump]) -> Option<MachineError>
     requires { IsShort jumps.now }
     ensures { result ≡ each_told (jump_test row entry) after_jump (0, 0) 1 (map jump_plan jumps.now) }
 {
@@ -45,7 +46,7 @@ fn test_each(row: u32, entry: u32, jumps: &[Jump]) -> Option<MachineError>
 
 /// The test of a jump, which is told the time of the one before it and the size of all before.
 fn test_jump(
-    row: u32,
+    row: Row,
     entry: u32,
     told: (u64, u64),
     item: u32,

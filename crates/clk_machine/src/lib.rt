@@ -8,7 +8,9 @@
 //!   by halving over sums that the machine keeps, so a file with many delays and jumps costs about what one without costs.
 //! - [`Machine::reference`] converted is monotonic time, [`Machine::gtod`].
 //! - [`RawReading`] and [`Published`] are what a latch answers, and `specs/Records.antt` says which are right.
-//! - [`readings_are_small`] carries what follows from the limits alone.
+//! - [`readings_are_small`] carries what follows from the limits alone, and [`limits_are_tested`] that the range tests test
+//!   them.
+//! - [`Row`] names the rows of the file, once for the reader, the range tests and the text of a [`Place`].
 //!
 //! A machine says nothing of what its threads do or when: it describes counters and names the words of scripts.
 #![tactic(auto)]
@@ -25,6 +27,7 @@ mod parts;
 mod place;
 mod ranges;
 mod reading;
+mod rows;
 mod script;
 mod sources;
 #[cfg(test)]
@@ -34,11 +37,12 @@ mod tickets;
 
 pub use error::MachineError;
 pub use gate::{Gate, OpenGate};
-pub use laws::readings_are_small;
+pub use laws::{limits_are_tested, readings_are_small};
 pub use machine::Machine;
 pub use parts::{
     BringUpPart, CpuPart, Delay, Jump, Parts, ReaderPart, ReferencePart, SourcePart, WatchPart,
 };
 pub use place::Place;
 pub use reading::{CpuCounter, Published, RawReading};
+pub use rows::{ROW_NAMES, Row};
 pub use script::{Script, Word};

@@ -1,10 +1,15 @@
-ghost use Rattle.std.specs.Prelude.{◌≡◌, ◌*◌, ◌^◌, ◌<◌, ◌≤◌, false, IfOk, IfErr, Some, None, pos, ◌≤ℤ◌, length, slice_index_or};
+//! A machine that was accepted, and its counters and times.
+ghost use Rattle.std.specs.Prelude.{◌≡◌, ◌*◌, ◌^◌, ◌<◌, ◌≤◌, false, IfOk, IfErr, IsSome, IfSome, Some, None, pos, ◌≤ℤ◌, length, slice_index_or};
 ghost use Rattle.std.specs.Option.{option_copied};
+ghost use Rattle.std.specs.Ordering.{int_eq};
+ghost use Rattle.std.specs.List.{list_any};
 ghost use Rattle.clk_base.specs.First.{first};
 ghost use Rattle.clk_num.specs.Range.{IsNear};
 ghost use Rattle.clk_machine.specs.Plan.{plan_of, script_plan, cpu_plan, reader_plan, source_plan, count_of, cpu_count, all_words, threads_of, thread_at};
-ghost use Rattle.clk_machine.specs.Limits.{IsWithin, IsWidth, IsRateInKhz, IsScript, IsCpu, IsReader, IsSource, AreInRange, IsWithinLimits};
+ghost use Rattle.clk_machine.specs.Limits.{ticket_limit, most_tickets, IsWithin, IsWidth, IsRateInKhz, IsScript, IsCpu, IsReader, IsSource, AreInRange, IsWithinLimits};
 ghost use Rattle.clk_machine.specs.Tickets.{tickets_needed};
+ghost use Rattle.clk_machine.specs.Timeouts.{is_first_of_socket, timeout_of};
+ghost use Rattle.clk_machine.specs.Records.{base_of};
 ghost use Rattle.clk_machine.specs.Time.{time_at, cpu_at, counter_at, source_plan_at, source_at, reference_at, gtod_at, sched_rate, reference_rate, rate_of};
 ghost use Rattle.clk_machine.specs.Sums.{HasJumpSums};
 ghost use Rattle.clk_machine.specs.Short.{IsWellFormed};
@@ -17,16 +22,13 @@ use crate::numbers::{test_bring_up, test_numbers, test_reference, test_watchdog}
 use crate::parts::{
     BringUpPart, CpuPart, Parts, ReaderPart, ReferencePart, SourcePart, WatchPart, sum_parts,
 };
-use crate::ranges::count;
+use crate::ranges::{count, ticket_limit as limit_of};
 use crate::script::{Script, Word};
 use crate::sources::test_sources;
 use crate::threads::test_threads;
 use crate::tickets::needed_by;
 use clk_num::{Rate, cyc_to_ns, mult_shift, source_rate};
 use std::marker::Model;
-
-/// The most tickets that a run draws.
-const MAX_TICKETS: u64 = 1 << 24;
 
 /// The ns of a second.
 const NS_PER_SECOND: u32 = 1_000_000_000;
@@ -59,7 +61,7 @@ impl Machine {
     /// The machine of these numbers, where all of them are in range. It takes no memory.
     ///
     /// The error is the first failing range test, in the order of the rows of the machine file: `Tickets` comes last, and so
-    /// exactly where all numbers are in range and the run needs more than 2^24 tickets.
+    /// exactly where all numbers are in range and the run needs more tickets than its version allows, 2^24 or 2^26.
     pub fn new(parts: Parts) -> Result<Machine, MachineError>
         requires { IsWellFormed (plan_of parts) }
         ensures machine { IfOk result (λ m. m ≡ plan_of parts) }
@@ -70,15 +72,23 @@ impl Machine {
             return Err(refusal);
         }
         let needed = needed_by(&parts);
-        if needed > MAX_TICKETS {
+        if needed > limit_of(parts.version) {
             return Err(MachineError::Tickets { needed });
         }
         Ok(machine_of(parts, needed))
     }
 
-    /// The number of CPUs, 1 to 16. All limits hold.
+    /// The ns at which the clocks begin: those of record 0 of each latch. 0 in version 1.
+    pub fn base(&self) -> i64
+        ensures { result ≡ base_of self.now }
+    {
+        self.parts.base
+    }
+
+    /// The number of CPUs, 1 to 16, and in version 2 to 64. All limits hold.
     pub fn cpus(&self) -> u32
         ensures count { result ≡ cpu_count self.now }
+        ensures few { (1 ≤ result) × (result ≤ 64) }
         ensures limits { IsWithinLimits self.now }
     {
         self.parts.cpu.len() as u32
@@ -208,6 +218,30 @@ impl Machine {
         self.parts.bringup.as_ref()
     }
 
+    /// The timeout of a CPU's tests in us, 0 to 1,000,000: the first CPU of a socket has its own. After `loop_timeout` of
+    /// Linux 6.1's `arch/x86/kernel/tsc_sync.c`.
+    pub fn timeout(&self, cpu: u32) -> u64
+        requires bring_up { IsSome self.now.bringup }
+        requires cpu { (1 ≤ cpu) × (cpu < cpu_count self.now) }
+        ensures timeout { IfSome self.now.bringup (λ b. result ≡ timeout_of self.now b cpu) }
+        ensures few { result ≤ 1000000 }
+    {
+        match &self.parts.bringup {
+            None => 0,
+            Some(part) if self.is_first_of_socket(cpu) => count(&part.first_us),
+            Some(part) => count(&part.timeout_us),
+        }
+    }
+
+    /// Whether no CPU of a lower number has the CPU's socket.
+    fn is_first_of_socket(&self, cpu: u32) -> bool
+        requires { cpu < cpu_count self.now }
+        ensures { result ≡ is_first_of_socket self.now cpu }
+    {
+        let socket = &self.cpu(cpu).socket;
+        !has_socket(&self.parts.cpu.items()[..cpu as usize], socket)
+    }
+
     /// How clock sources are watched, if they are.
     pub fn watchdog(&self) -> Option<&WatchPart>
         ensures { option_copied result ≡ self.now.watchdog }
@@ -257,9 +291,10 @@ impl Machine {
         source_rate(hertz(&source.nominal_khz), count(&source.bits) as u32)
     }
 
-    /// How many tickets a run may draw, at most 2^24. All limits hold.
+    /// How many tickets a run may draw, at most 2^24, or in version 2 at most 2^26. All limits hold.
     pub fn tickets_needed(&self) -> u64
         ensures tickets { result ≡ tickets_needed self.now }
+        ensures few { result ≤ most_tickets }
         ensures limits { IsWithinLimits self.now }
     {
         self.tickets
@@ -267,9 +302,9 @@ impl Machine {
 
     /// The time at a ticket, in ns.
     pub fn time(&self, k: u64) -> u64
-        requires { k < 2 ^ 24 }
+        requires { k < most_tickets }
         ensures time { result ≡ time_at self.now k }
-        ensures small { result < 2 ^ 40 }
+        ensures small { result < 2 ^ 41 }
     {
         k * count(&self.parts.step) + delay_until(self.parts.delay.items(), k)
     }
@@ -278,7 +313,7 @@ impl Machine {
     pub fn counter(&self, cpu: u32, adjust: i64, k: u64) -> u64
         requires cpu { cpu < cpu_count self.now }
         requires adjust { IsNear 48 adjust }
-        requires ticket { k < 2 ^ 24 }
+        requires ticket { k < most_tickets }
         ensures { result ≡ counter_at self.now cpu adjust k }
     {
         let part = self.cpu(cpu);
@@ -297,7 +332,7 @@ impl Machine {
     pub fn source_counter(&self, s: u32, k: u64) -> u64
         requires source { s < length self.now.source }
         requires other { (source_plan_at self.now s).tsc ≡ false }
-        requires ticket { k < 2 ^ 24 }
+        requires ticket { k < most_tickets }
         ensures { result ≡ source_at self.now s k }
     {
         let part = self.parts.source.get(s as usize);
@@ -313,18 +348,18 @@ impl Machine {
 
     /// The full count of the reference at a ticket, in cycles.
     pub fn reference(&self, k: u64) -> u64
-        requires { k < 2 ^ 24 }
+        requires { k < most_tickets }
         ensures count { result ≡ reference_at self.now k }
-        ensures small { result < 2 ^ 42 }
+        ensures small { result < 2 ^ 43 }
     {
         cycles_in(count(&self.parts.reference.khz), self.time(k))
     }
 
     /// Monotonic time at a ticket, in ns: the reference, converted.
     pub fn gtod(&self, k: u64) -> i64
-        requires { k < 2 ^ 24 }
+        requires { k < most_tickets }
         ensures time { result ≡ gtod_at self.now k }
-        ensures small { (pos 0 ≤ℤ result) × (result ≤ℤ pos (2 ^ 41)) }
+        ensures small { (pos 0 ≤ℤ result) × (result ≤ℤ pos (2 ^ 42)) }
     {
         cyc_to_ns(self.reference(k), self.reference) as i64
     }
@@ -339,7 +374,7 @@ fn refusal_of(parts: &Parts) -> Option<MachineError>
         .or(test_reference(&parts.reference))
         .or(test_threads(parts))
         .or(
-            test_delays(&parts.delay)
+            test_delays(limit_of(parts.version), &parts.delay)
                 .or(test_bring_up(&parts.bringup))
                 .or(test_watchdog(&parts.watchdog))
                 .or(test_sources(&parts.source)),
@@ -350,7 +385,7 @@ fn refusal_of(parts: &Parts) -> Option<MachineError>
 fn machine_of(mut parts: Parts, tickets: u64) -> Machine
     requires ranges { AreInRange (plan_of parts) }
     requires tickets { tickets ≡ tickets_needed (plan_of parts) }
-    requires few { tickets ≤ 2 ^ 24 }
+    requires few { tickets ≤ ticket_limit parts.version }
     ensures { result ≡ plan_of parts }
 {
     sum_parts(&mut parts);
@@ -365,6 +400,14 @@ fn machine_of(mut parts: Parts, tickets: u64) -> Machine
         reference,
         tickets,
     }
+}
+
+/// Whether one of these CPUs has this socket.
+fn has_socket(cpus: &[CpuPart], socket: &i64) -> bool
+    ensures { result ≡ list_any (λ c. int_eq c.socket socket.now) cpus.now }
+{
+    let socket = *socket;
+    cpus.iter().any(|cpu| cpu.socket == socket)
 }
 
 /// A rate in Hz.

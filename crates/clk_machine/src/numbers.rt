@@ -6,27 +6,29 @@ ghost use Rattle.clk_machine.specs.Ranges.{number_tests, reference_tests, bring_
 
 use crate::error::MachineError;
 use crate::parts::{BringUpPart, Parts, ReferencePart, WatchPart};
-use crate::ranges::{ranges, width};
+use crate::ranges::{most_cpus, ranges, width};
+use crate::rows::Row;
 
 /// The machine's own numbers.
 pub(crate) fn test_numbers(parts: &Parts) -> Option<MachineError>
     ensures { result ≡ first (number_tests (plan_of parts.now)) }
 {
-    ranges(2, 0, 1, 16, parts.cpus)
-        .or(ranges(3, 0, 1, 1 << 14, parts.step))
-        .or(ranges(4, 0, 1, 1 << 30, parts.tick))
-        .or(width(5, 0, parts.bits))
-        .or(ranges(6, 0, 1_000, 4_000_000, parts.nominal_khz))
+    ranges(Row::Version, 0, 1, 2, parts.version)
+        .or(ranges(Row::Cpus, 0, 1, most_cpus(parts.version), parts.cpus))
+        .or(ranges(Row::Step, 0, 1, 1 << 14, parts.step))
+        .or(ranges(Row::Tick, 0, 1, 1 << 30, parts.tick))
+        .or(width(Row::Bits, 0, parts.bits))
+        .or(ranges(Row::NominalKhz, 0, 1_000, 4_000_000, parts.nominal_khz))
 }
 
 /// The reference's.
 pub(crate) fn test_reference(reference: &ReferencePart) -> Option<MachineError>
     ensures { result ≡ first (reference_tests reference.now) }
 {
-    ranges(9, 0, 1_000, 4_000_000, reference.khz)
-        .or(width(10, 0, reference.bits))
-        .or(ranges(11, 0, 1, 1_000, reference.rating))
-        .or(ranges(12, 0, 0, 1 << 30, reference.margin))
+    ranges(Row::ReferenceKhz, 0, 1_000, 4_000_000, reference.khz)
+        .or(width(Row::ReferenceBits, 0, reference.bits))
+        .or(ranges(Row::ReferenceRating, 0, 1, 1_000, reference.rating))
+        .or(ranges(Row::ReferenceMargin, 0, 0, 1 << 30, reference.margin))
 }
 
 /// The bring-up's, if there is one.
@@ -35,9 +37,9 @@ pub(crate) fn test_bring_up(bring_up: &Option<BringUpPart>) -> Option<MachineErr
 {
     match bring_up {
         None => None,
-        Some(part) => {
-            ranges(28, 0, 0, 1_000_000, part.timeout_us).or(ranges(29, 0, 0, 4_096, part.turns))
-        }
+        Some(part) => ranges(Row::BringUpTimeout, 0, 0, 1_000_000, part.timeout_us)
+            .or(ranges(Row::BringUpFirst, 0, 0, 1_000_000, part.first_us))
+            .or(ranges(Row::BringUpTurns, 0, 0, 4_096, part.turns)),
     }
 }
 
@@ -47,9 +49,9 @@ pub(crate) fn test_watchdog(watchdog: &Option<WatchPart>) -> Option<MachineError
 {
     match watchdog {
         None => None,
-        Some(part) => ranges(31, 0, 0, 4_096, part.checks)
-            .or(ranges(32, 0, 1, 65_536, part.pause))
-            .or(ranges(33, 0, 0, 1 << 30, part.skew))
-            .or(ranges(34, 0, 0, 10, part.retries)),
+        Some(part) => ranges(Row::WatchdogChecks, 0, 0, 4_096, part.checks)
+            .or(ranges(Row::WatchdogPause, 0, 1, 65_536, part.pause))
+            .or(ranges(Row::WatchdogSkew, 0, 0, 1 << 30, part.skew))
+            .or(ranges(Row::WatchdogRetries, 0, 0, 10, part.retries)),
     }
 }

@@ -1,3 +1,4 @@
+//! The numbers of a machine file as they were written, and the sums that are kept beside them.
 ghost use Rattle.std.specs.Prelude.{◌≡◌, ◌^◌, ◌≤◌, pos, nat_abs, map};
 ghost use Rattle.std.specs.List.{All, sum_by};
 ghost use Rattle.clk_machine.specs.Plan.{delay_plan, jump_plan, cpu_plan, source_plan, plan_of, count_of};
@@ -11,7 +12,11 @@ use clk_num::List;
 /// The numbers of a machine file, as they were written. [`crate::Machine::new`] tests them.
 #[derive(Drop)]
 pub struct Parts {
-    /// How many CPUs there are, 1 to 16.
+    /// The version of the file, 1 or 2.
+    pub version: i64,
+    /// The ns at which the clocks begin; any number.
+    pub base: i64,
+    /// How many CPUs there are, 1 to 16, and in version 2 to 64.
     pub cpus: i64,
     /// The ns that a ticket takes, 1 to 2^14.
     pub step: i64,
@@ -49,12 +54,13 @@ pub struct ReferencePart {
     pub margin: i64,
 }
 
-/// A CPU: the true rate of its counter, 1,000 to 4,000,000 kHz, where the counter began, within 2^44 cycles of 0, its
-/// jumps, and its script.
+/// A CPU: the true rate of its counter, 1,000 to 4,000,000 kHz, where the counter began, within 2^44 cycles of 0, the
+/// socket that it is in, 0 to 63, its jumps, and its script.
 #[derive(Drop)]
 pub struct CpuPart {
     pub khz: i64,
     pub offset: i64,
+    pub socket: i64,
     pub jumps: List<Jump>,
     pub script: Script,
 }
@@ -67,11 +73,12 @@ pub struct ReaderPart {
 }
 
 /// A bring-up: whether a CPU has the register that adjusts its counter, the longest time of a test's loop, 0 to 1,000,000
-/// us, and its most turns, 0 to 4,096.
+/// us, that of the first CPU of a socket, in the same range, and its most turns, 0 to 4,096.
 #[derive(Clone, Copy, PartialEq, Eq, Debug)]
 pub struct BringUpPart {
     pub adjust: bool,
     pub timeout_us: i64,
+    pub first_us: i64,
     pub turns: i64,
 }
 

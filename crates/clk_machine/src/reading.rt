@@ -1,3 +1,4 @@
+//! What a latch answers: raw readings, and the records that they were converted by.
 use crate::machine::Machine;
 
 /// A raw clock reading: the ticket that was drawn for it, the counter there in cycles, the number of the latch record that

@@ -1,6 +1,7 @@
+//! What a thread does, word by word.
 ghost use Rattle.std.specs.Prelude.{◌≡◌, ◌^◌, ◌<◌, ◌≤◌, length, slice_index_or};
 ghost use Rattle.clk_machine.specs.Plan.{script_plan, all_words};
-ghost use Rattle.clk_machine.specs.Limits.{IsWithin, is_update};
+ghost use Rattle.clk_machine.specs.Limits.{IsWithin, longest_pause, is_update};
 ghost use Rattle.clk_machine.specs.Ranges.{script_length, script_updates};
 ghost use Rattle.clk_machine.specs.Tested.{HasCount, IsRunnable, script_tickets};
 ghost use Rattle.clk_machine.specs.Tickets.{tickets_of};
@@ -28,7 +29,7 @@ pub enum Word {
     Idle,
     /// The CPU's latch gets a new record.
     Update,
-    /// So many tickets go by, 1 to 2^24.
+    /// So many tickets go by, 1 to 2^24 in either version.
     Pause(i64),
 }
 
@@ -44,7 +45,7 @@ impl Word {
     fn tickets(&self) -> u64
         requires { HasCount self.now }
         ensures count { result ≡ tickets_of self.now }
-        ensures few { result ≤ 2 ^ 24 }
+        ensures few { result ≤ longest_pause }
     {
         match self {
             Word::Local | Word::Remote(_) | Word::Update => 1,

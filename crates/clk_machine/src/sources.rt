@@ -1,6 +1,7 @@
 //! The range tests of clock sources.
 ghost use Rattle.std.specs.Prelude.{◌≡◌, ◌||◌, ◌∷◌, [], length, map};
 ghost use Rattle.clk_base.specs.First.{first};
+ghost use Rattle.clk_machine.specs.declared.rows.Row.TheVariants as rows;
 ghost use Rattle.clk_machine.specs.Plan.{source_plan};
 ghost use Rattle.clk_machine.specs.Ranges.{at_most as length_test, source_tests, other_tests, each_source};
 ghost use Rattle.std.specs.List.{All};
@@ -11,6 +12,7 @@ use crate::error::MachineError;
 use crate::jumps::test_jumps;
 use crate::parts::SourcePart;
 use crate::ranges::{at_most, ranges, unless_held, value_at, width};
+use crate::rows::Row;
 use clk_num::List;
 
 /// The most sources.
@@ -20,9 +22,9 @@ const MAX_SOURCES: usize = 8;
 pub(crate) fn test_sources(sources: &List<SourcePart>) -> Option<MachineError>
     requires short { IsShort sources.now.items }
     requires each { All (λ s. IsShort s.jumps) (map source_plan sources.now.items) }
-    ensures { result ≡ first (length_test 35 0 8 (map source_plan sources.now.items) ∷ each_source (map source_plan sources.now.items) ∷ []) }
+    ensures { result ≡ first (length_test rows.Source 0 8 (map source_plan sources.now.items) ∷ each_source (map source_plan sources.now.items) ∷ []) }
 {
-    at_most(35, 0, MAX_SOURCES, sources).or(test_each(sources.items()))
+    at_most(Row::Source, 0, MAX_SOURCES, sources).or(test_each(sources.items()))
 }
 
 /// The test of each source.
@@ -58,9 +60,12 @@ fn refusal_of(entry: u32, own_before: bool, source: &SourcePart) -> Option<Machi
     requires { IsShort (source_plan source.now).jumps }
     ensures { result ≡ first (source_tests entry own_before (source_plan source.now)) }
 {
-    let refusal = unless_held(!(own_before && source.tsc), value_at(37, entry, 0))
-        .or(ranges(38, entry, 1, 1_000, source.rating))
-        .or(ranges(39, entry, 0, 1 << 30, source.margin));
+    let refusal = unless_held(
+        !(own_before && source.tsc),
+        value_at(Row::SourceTsc, entry, 0),
+    )
+    .or(ranges(Row::SourceRating, entry, 1, 1_000, source.rating))
+    .or(ranges(Row::SourceMargin, entry, 0, 1 << 30, source.margin));
     if source.tsc {
         refusal
     } else {
@@ -73,8 +78,14 @@ fn test_other(entry: u32, source: &SourcePart) -> Option<MachineError>
     requires { IsShort (source_plan source.now).jumps }
     ensures { result ≡ first (other_tests entry (source_plan source.now)) }
 {
-    ranges(40, entry, 1_000, 4_000_000, source.nominal_khz)
-        .or(ranges(41, entry, 1_000, 4_000_000, source.khz))
-        .or(width(42, entry, source.bits))
-        .or(test_jumps(43, entry, &source.jumps))
+    ranges(
+        Row::SourceNominalKhz,
+        entry,
+        1_000,
+        4_000_000,
+        source.nominal_khz,
+    )
+    .or(ranges(Row::SourceKhz, entry, 1_000, 4_000_000, source.khz))
+    .or(width(Row::SourceBits, entry, source.bits))
+    .or(test_jumps(Row::SourceJumps, entry, &source.jumps))
 }

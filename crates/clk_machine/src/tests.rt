@@ -1,10 +1,12 @@
-ghost use Rattle.std.specs.Prelude.{◌≡◌, ◌<◌, ◌^◌, IfOk, [], ◌∷◌, length};
-ghost use Rattle.clk_machine.specs.Plan.{plan_of};
-ghost use Rattle.clk_machine.specs.Short.{IsWellFormed};
+//! Worked rows of counters and timeouts, and which failing row is told.
+ghost use Rattle.std.specs.Prelude.{◌≡◌, ◌<◌, ◌^◌, IfOk, IsSome, [], ◌∷◌, length, map};
+ghost use Rattle.std.specs.List.{All};
+ghost use Rattle.clk_machine.specs.Plan.{plan_of, cpu_plan, cpu_count};
+ghost use Rattle.clk_machine.specs.Short.{IsShortCpu, IsWellFormed};
 
 use crate::error::MachineError;
 use crate::machine::Machine;
-use crate::parts::{CpuPart, Delay, Jump, Parts, ReferencePart};
+use crate::parts::{BringUpPart, CpuPart, Delay, Jump, Parts, ReferencePart};
 use crate::place::Place;
 use crate::script::{Script, Word};
 use clk_num::List;
@@ -27,24 +29,47 @@ fn none<T>(alloc: Global) -> Result<List<T>, AllocError>
     List::with_room(alloc, 0)
 }
 
-/// One CPU of 2.4 GHz that began at 300 cycles and goes back by 400 at 25 ns, and these delays.
-fn parts(alloc: Global, delay: List<Delay>) -> Result<Parts, AllocError>
-    requires { length delay.items < 2 ^ 32 }
-    ensures { IfOk result (λ p. IsWellFormed (plan_of p)) }
+/// A CPU of 2.4 GHz in this socket that began at 300 cycles and goes back by 400 at 25 ns.
+fn cpu_in(alloc: Global, socket: i64) -> Result<CpuPart, AllocError>
+    ensures { IfOk result (λ c. IsShortCpu (cpu_plan c)) }
 {
     let script = Script {
         repeat: 3,
         words: one(alloc, Word::Tick)?,
     };
     let jumps = one(alloc, Jump::new(25, -400))?;
-    let cpu = CpuPart {
+    Ok(CpuPart {
         khz: 2_400_000,
         offset: 300,
+        socket,
         jumps,
         script,
-    };
+    })
+}
+
+/// Three CPUs, the last one in a socket of its own.
+fn three_cpus(alloc: Global) -> Result<List<CpuPart>, AllocError>
+    ensures count { IfOk result (λ l. length (map cpu_plan l.items) ≡ 3) }
+    ensures short { IfOk result (λ l. All IsShortCpu (map cpu_plan l.items)) }
+{
+    let mut cpus = List::with_room(alloc, 3)?;
+    cpus.push(cpu_in(alloc, 0)?);
+    cpus.push(cpu_in(alloc, 0)?);
+    cpus.push(cpu_in(alloc, 1)?);
+    Ok(cpus)
+}
+
+/// Three CPUs, a bring-up, clocks that begin at -7 ns, and these delays.
+fn parts(alloc: Global, delay: List<Delay>) -> Result<Parts, AllocError>
+    requires { length delay.items < 2 ^ 32 }
+    ensures well_formed { IfOk result (λ p. IsWellFormed (plan_of p)) }
+    ensures count { IfOk result (λ p. cpu_count (plan_of p) ≡ 3) }
+    ensures bring_up { IfOk result (λ p. IsSome p.bringup) }
+{
     Ok(Parts {
-        cpus: 1,
+        version: 2,
+        base: -7,
+        cpus: 3,
         step: 10,
         tick: 1_000_000,
         bits: 64,
@@ -56,10 +81,15 @@ fn parts(alloc: Global, delay: List<Delay>) -> Result<Parts, AllocError>
             rating: 300,
             margin: 0,
         },
-        cpu: one(alloc, cpu)?,
+        cpu: three_cpus(alloc)?,
         reader: none(alloc)?,
         delay,
-        bringup: None,
+        bringup: Some(BringUpPart {
+            adjust: false,
+            timeout_us: 0,
+            first_us: 1_000,
+            turns: 5,
+        }),
         watchdog: None,
         source: none(alloc)?,
     })
@@ -76,6 +106,15 @@ fn jump_and_delay(rt: HostRuntime) -> Result<(), Fail> {
     assert_eq!(rt; machine.counter(0, 0, 2), 348);
     assert_eq!(rt; machine.counter(0, 0, 3), 0);
     assert_eq!(rt; machine.counter(0, 0, 15), 276);
+    Ok(())
+}
+
+#[test]
+fn the_first_cpu_of_a_socket_has_its_own_timeout(rt: HostRuntime) -> Result<(), Fail> {
+    let machine = Machine::new(parts(rt.alloc(), none(rt.alloc())?)?).expect(&rt, "a machine");
+    assert_eq!(rt; machine.base(), -7);
+    assert_eq!(rt; machine.timeout(1), 0);
+    assert_eq!(rt; machine.timeout(2), 1_000);
     Ok(())
 }
 

@@ -11,6 +11,7 @@ use crate::error::MachineError;
 use crate::jumps::test_jumps;
 use crate::parts::{CpuPart, Parts, ReaderPart};
 use crate::ranges::{at_most, cpu_at, is_between, is_cpu, ranges, unless_held, value_at};
+use crate::rows::Row;
 use crate::script::{Script, Word};
 
 /// The most repeats of a script.
@@ -34,7 +35,7 @@ const MAX_OFFSET: u64 = 1 << 44;
 const MAX_READERS: usize = 16;
 
 /// The test of a word.
-fn test_word(cpus: u64, row: u32, entry: u32, item: u32, word: &Word) -> Option<MachineError>
+fn test_word(cpus: u64, row: Row, entry: u32, item: u32, word: &Word) -> Option<MachineError>
     ensures { result ≡ word_test cpus row entry item word.now }
 {
     match word {
@@ -47,7 +48,7 @@ fn test_word(cpus: u64, row: u32, entry: u32, item: u32, word: &Word) -> Option<
 }
 
 /// The test of a script's words.
-fn test_words(cpus: u64, row: u32, entry: u32, words: &[Word]) -> Option<MachineError>
+fn test_words(cpus: u64, row: Row, entry: u32, words: &[Word]) -> Option<MachineError>
     requires { IsShort words.now }
     ensures { result ≡ each (word_test cpus row entry) 1 words.now }
 {
@@ -60,29 +61,29 @@ fn test_words(cpus: u64, row: u32, entry: u32, words: &[Word]) -> Option<Machine
     None
 }
 
-/// The test of a script, after scripts of so many words. The row is that of its repeat; the next one is its own.
+/// The test of a script, by the rows of its repeat and of its words, after scripts of so many words.
 fn test_script(
     cpus: u64,
-    row: u32,
+    repeat: Row,
+    row: Row,
     entry: u32,
     before: u64,
     script: &Script,
 ) -> Result<u64, MachineError>
-    requires row { row < 43 }
     requires words { IsShort script.now.words.items }
     requires before { before ≤ 524288 }
-    ensures { Tested (first (script_tests cpus row entry before (script_plan script.now)))
+    ensures { Tested (first (script_tests cpus repeat row entry before (script_plan script.now)))
         (before + script_length (script_plan script.now)) (λ words. words ≤ 524288) result }
 {
     if !is_between(0, MAX_REPEAT, script.repeat) {
-        return Err(value_at(row, entry, 0));
+        return Err(value_at(repeat, entry, 0));
     }
-    if let Some(refusal) = test_words(cpus, row + 1, entry, script.words.items()) {
+    if let Some(refusal) = test_words(cpus, row, entry, script.words.items()) {
         return Err(refusal);
     }
     let length = script.length();
     if length > MAX_WORDS || before + length > MAX_ALL_WORDS || script.updates() > MAX_UPDATES {
-        return Err(value_at(row + 1, entry, 0));
+        return Err(value_at(row, entry, 0));
     }
     Ok(before + length)
 }
@@ -94,15 +95,23 @@ fn test_cpu(cpus: u64, entry: u32, before: u64, cpu: &CpuPart) -> Result<u64, Ma
     ensures { Tested (first (cpu_tests cpus entry before (cpu_plan cpu.now)))
         (before + script_length (script_plan cpu.now.script)) (λ words. words ≤ 524288) result }
 {
-    let refusal = ranges(14, entry, 1_000, 4_000_000, cpu.khz)
+    let refusal = ranges(Row::CpuKhz, entry, 1_000, 4_000_000, cpu.khz)
         .or(unless_held(
             cpu.offset.unsigned_abs() <= MAX_OFFSET,
-            value_at(15, entry, 0),
+            value_at(Row::CpuOffset, entry, 0),
         ))
-        .or(test_jumps(16, entry, &cpu.jumps));
+        .or(ranges(Row::CpuSocket, entry, 0, 63, cpu.socket))
+        .or(test_jumps(Row::CpuJumps, entry, &cpu.jumps));
     match refusal {
         Some(refusal) => Err(refusal),
-        None => test_script(cpus, 17, entry, before, &cpu.script),
+        None => test_script(
+            cpus,
+            Row::CpuRepeat,
+            Row::CpuScript,
+            entry,
+            before,
+            &cpu.script,
+        ),
     }
 }
 
@@ -114,9 +123,16 @@ fn test_reader(cpus: u64, entry: u32, before: u64, reader: &ReaderPart) -> Resul
         (before + script_length (script_plan reader.now.script)) (λ words. words ≤ 524288) result }
 {
     if !is_cpu(cpus, reader.cpu) {
-        return Err(cpu_at(20, entry, 0));
+        return Err(cpu_at(Row::ReaderCpu, entry, 0));
     }
-    test_script(cpus, 21, entry, before, &reader.script)
+    test_script(
+        cpus,
+        Row::ReaderRepeat,
+        Row::ReaderScript,
+        entry,
+        before,
+        &reader.script,
+    )
 }
 
 /// The test of all CPUs.
@@ -159,11 +175,11 @@ pub(crate) fn test_threads(parts: &Parts) -> Option<MachineError>
 {
     let count = parts.cpu.len() as u64;
     if !is_between(count, count, parts.cpus) {
-        return Some(value_at(13, 0, 0));
+        return Some(value_at(Row::Cpu, 0, 0));
     }
     match test_cpus(count, parts.cpu.items()) {
         Err(refusal) => Some(refusal),
-        Ok(words) => at_most(19, 0, MAX_READERS, &parts.reader).or(test_readers(
+        Ok(words) => at_most(Row::Reader, 0, MAX_READERS, &parts.reader).or(test_readers(
             count,
             words,
             parts.reader.items(),

@@ -56,14 +56,14 @@ fn of_words(parts: &Parts) -> u64
     requires formed { IsWellFormed (plan_of parts.now) }
     requires ranges { AreInRange (plan_of parts.now) }
     ensures count { result ≡ word_tickets (plan_of parts.now) }
-    ensures few { result ≤ 2 ^ 46 }
+    ensures few { result ≤ 2 ^ 47 }
 {
     of_cpus(parts.cpu.items()) + of_readers(parts.reader.items())
 }
 
 /// Those of the CPUs' scripts.
 fn of_cpus(cpus: &[CpuPart]) -> u64
-    requires few { length cpus.now ≤ 16 }
+    requires few { length cpus.now ≤ 64 }
     requires scripts { All (λ c. IsRunnable c.script) (map cpu_plan cpus.now) }
     ensures count { result ≡ sum_by (λ c. script_tickets c.script) (map cpu_plan cpus.now) }
     ensures few { result ≤ length cpus.now * 2 ^ 40 }

@@ -1,12 +1,12 @@
 -- The rule of the ticket table, and what each step tells.
-use Rattle.std.specs.Prelude.{◌≡◌, ℕ, ◌+◌, ◌-◌, ◌^◌, ◌≤◌, [], ◌∷◌, ◌++◌, length, slice_index, max}
+use Rattle.std.specs.Prelude.{◌≡◌, ℕ, ◌+◌, ◌-◌, ◌≤◌, [], ◌∷◌, ◌++◌, length, slice_index, max}
 use Rattle.std.specs.List.{sum_by}
 use mathlib.Core.Option.{some}
 use lib.ListN.{get_elem?}
 use Rattle.atomic_table.specs.Table.{State, Me, Step}
 use Rattle.clk_base.specs.Blocks.{once_below, times_in}
 use Rattle.clk_base.specs.Blocks.{AllEndBy}
-use Rattle.clk_ticket.specs.Sizes.{size_of}
+use Rattle.clk_ticket.specs.Sizes.{most_tickets, size_of}
 use Rattle.clk_ticket.specs.declared.rule.Knows.{Knows}
 
 -- the word is how many tickets were drawn
@@ -16,7 +16,7 @@ word_of s = slice_index s.words 0
 -- the rule, which holds between any two steps
 pub record Kept (total : ℕ) (s : State (Unit {0}) Knows) : Type 0 where
   pub wide : length s.words ≡ 1
-  pub bound : total ≤ 2 ^ 24
+  pub bound : total ≤ most_tickets
   -- the word is the total less the sum of all budgets left
   pub budget : word_of s + sum_by (λ v. v.left) s.views ≡ total
   -- the blocks of all seats, ended ones too, are disjoint and cover the numbers below the word
@@ -45,11 +45,11 @@ knows_both v w = record { left = v.left + w.left; blocks = v.blocks ++ w.blocks;
 pub record Drew (st : Step (Unit {0})) (before : Me (Unit {0}) Knows) (found : ℕ) (after : Me (Unit {0}) Knows) : Type 0 where
   pub is : after ≡ (knows_more found st.first before.0, before.1)
   pub later : before.0.seen ≤ found
-  pub budget : found + before.0.left ≤ 2 ^ 24
-  pub bound : found + st.first ≤ 2 ^ 24
+  pub budget : found + before.0.left ≤ most_tickets
+  pub bound : found + st.first ≤ most_tickets
 
 -- a load that changes nothing
 pub record Looked (st : Step (Unit {0})) (before : Me (Unit {0}) Knows) (found : ℕ) (after : Me (Unit {0}) Knows) : Type 0 where
   pub is : after ≡ before
-  pub fits : before.0.left ≤ 2 ^ 24
+  pub fits : before.0.left ≤ most_tickets
   pub behind : AllEndBy before.0.seen before.0.blocks

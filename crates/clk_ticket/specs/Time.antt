@@ -1,10 +1,10 @@
 -- What contracts see of a table and of a seat, and what each call does to a seat.
-use Rattle.std.specs.Prelude.{◌≡◌, ℕ, ◌+◌, ◌-◌, ◌^◌, ◌≤◌, List, [], ◌∷◌, ◌++◌, max, refl}
+use Rattle.std.specs.Prelude.{◌≡◌, ℕ, ◌+◌, ◌-◌, ◌≤◌, List, [], ◌∷◌, ◌++◌, max, refl}
 use Rattle.std.specs.Coded.{Coded, code_by, coded×, coded_list, coded_ℕ}
 use Rattle.atomic_table.specs.Seated.{TableId, table_id_coded}
 use Rattle.clk_base.specs.declared.block.Block.{Block}
 use Rattle.clk_base.specs.Blocks.{AllEndBy, Rises}
-use Rattle.clk_ticket.specs.Sizes.{size_of}
+use Rattle.clk_ticket.specs.Sizes.{most_tickets, size_of}
 
 -- which table it is, and how many tickets there are
 pub record Tickets : Type 0 where
@@ -31,15 +31,15 @@ abbrev pub after_draw : Time → ℕ → ℕ → Time
 after_draw t first n =
     record t { left = t.left - n; blocks = t.blocks ++ (record { first = first; count = n }) ∷ []; seen = first + n }
 
--- a draw of n tickets: a block above all that the seat had seen, so that its blocks rise. A table has at most 2^24
--- tickets, and what is left to a seat is still to be drawn: no block leaves less
+-- a draw of n tickets: a block above all that the seat had seen, so that its blocks rise. What is left to a seat of the
+-- table's tickets is still to be drawn: no block leaves less
 pub record Draws (before : Time) (first n : ℕ) (after : Time) : Type 0 where
   pub is : after ≡ after_draw before first n
   pub later : before.seen ≤ first
   pub above : AllEndBy before.seen before.blocks
   pub rises : Rises before.blocks → Rises after.blocks
-  pub budget : first + before.left ≤ 2 ^ 24
-  pub bound : first + n ≤ 2 ^ 24
+  pub budget : first + before.left ≤ most_tickets
+  pub bound : first + n ≤ most_tickets
   pub share : share_of after ≡ share_of before
 
 -- the seat with that much less of a budget

@@ -1,6 +1,6 @@
 //! Time as one word that threads draw from.
 //!
-//! A ticket is a number below 2^24, and the order of the tickets is the order of time. One word says how many tickets
+//! A ticket is a number below 2^26, and the order of the tickets is the order of time. One word says how many tickets
 //! are drawn, and a draw is one `fetch_add`. Each thread has a seat with a budget, which the seats divide by splits and
 //! put together by joins, so the word never runs over.
 //!

@@ -1,6 +1,6 @@
-ghost use Rattle.std.specs.Prelude.{◌≡◌, ◌^◌, ◌≤◌, IfOk};
+ghost use Rattle.std.specs.Prelude.{◌≡◌, ◌≤◌, IfOk};
 ghost use Rattle.clk_base.specs.Blocks.{Covers};
-ghost use Rattle.clk_ticket.specs.Sizes.{size_of};
+ghost use Rattle.clk_ticket.specs.Sizes.{most_tickets, size_of};
 ghost use Rattle.clk_ticket.specs.Time.{fresh, share_of};
 
 use crate::rule::{Budgets, Knows};
@@ -31,9 +31,9 @@ impl Model for TicketTable {
 }
 
 impl TicketTable {
-    /// A table of `total` tickets, at most 2^24, and the seat that has them all. The error is want of memory.
+    /// A table of `total` tickets, at most 2^26, and the seat that has them all. The error is want of memory.
     pub fn new(alloc: Global, total: u64) -> Result<(TicketTable, TimeSeat), AllocError>
-        requires { total ≤ 2 ^ 24 }
+        requires { total ≤ most_tickets }
         ensures total { IfOk result (λ made. made.0.total ≡ total) }
         ensures seat { IfOk result (λ made. made.1 ≡ fresh made.0.table total 0) }
     {

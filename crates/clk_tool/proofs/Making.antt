@@ -12,6 +12,7 @@ use Rattle.clk_machine.specs.Tickets.{tickets_of}
 use Rattle.clk_machine.specs.declared.script.Word.{Word}
 use Rattle.clk_machine.specs.declared.script.Word.TheVariants as word
 use Rattle.clk_local.specs.Context.{Site, site_of, known_of, Keeps}
+use Rattle.clk_words.specs.declared.opening.Start.{Start}
 use Rattle.clk_trace.specs.ScriptEvents.{Calls, events_at, AreEventsOf}
 use Rattle.clk_trace.specs.WordHistory.{Step, steps_from}
 use Rattle.clk_trace.specs.declared.event.Event.{Event}
@@ -36,8 +37,9 @@ steps_from-append thread part (e ∷ es) fs =
 -- the thread of CPU 0 makes its calls there
 pub site_is : (t : Thread) → IsReady t → site_of t.ctx ≡ site (machine_of t) t.ctx.call
 site_is t r =
-    ap (λ (n : ℕ). record { machine = machine_of t; cpu = n; adjust = t.ctx.counter.adjust; call = t.ctx.call }) r.cpu
-    ∙ ap (λ (z : ℤ). record { machine = machine_of t; cpu = 0; adjust = z; call = t.ctx.call }) r.adjust
+    ap (λ (n : ℕ). record { machine = machine_of t; cpu = n; adjust = t.ctx.counter.adjust; sched_offset = t.ctx.sched_offset; call = t.ctx.call }) r.cpu
+    ∙ ap (λ (z : ℤ). record { machine = machine_of t; cpu = 0; adjust = z; sched_offset = t.ctx.sched_offset; call = t.ctx.call }) r.adjust
+    ∙ ap (λ (z : ℤ). record { machine = machine_of t; cpu = 0; adjust = pos 0; sched_offset = z; call = t.ctx.call }) r.sched_offset
 
 -- a call of clk_local keeps the context ready, where its seats stay sound
 pub ready_after : (v u : Thread) → IsReady v → Keeps (λ l s. s.latch ≡ l) (λ s. s.epoch) v.ctx u.ctx → IsSound (machine_of v) v.ctx.tickets.now.total u.ctx.latch_seat.epoch u.ctx.time → IsReady u
@@ -47,6 +49,8 @@ ready_after v u r k sound =
       limits = rw machine r.limits;
       cpu = ap (λ (z : Site). z.cpu) k.site ∙ r.cpu;
       adjust = ap (λ (z : Site). z.adjust) k.site ∙ r.adjust;
+      sched_offset = ap (λ (z : Site). z.sched_offset) k.site ∙ r.sched_offset;
+      percpu = ap (λ (s : Start). s.opening.mode) k.role.seat.start_is ∙ r.percpu;
       usable = k.usable;
       may_stamp = k.may_stamp r.may_stamp;
       sound = rw (machine, k.tickets) sound;
@@ -162,12 +166,13 @@ next_call n t u is r =
       limits = r.limits;
       cpu = r.cpu;
       adjust = r.adjust;
+      sched_offset = r.sched_offset;
+      percpu = r.percpu;
       usable = record {
         of_words = r.usable.of_words;
         of_latch = r.usable.of_latch;
         of_tickets = r.usable.of_tickets;
         reading = r.usable.reading;
-        found = r.usable.found;
         cpu_is = r.usable.cpu_is;
         machine_cpu = r.usable.machine_cpu;
         near = r.usable.near;

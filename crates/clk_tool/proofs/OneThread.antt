@@ -7,7 +7,7 @@ use Rattle.std.proofs.lemmas.List.Elements.{All-nil, All-append}
 use Rattle.std.proofs.lemmas.List.Sums.{sum_by-cons}
 use Rattle.std.proofs.lemmas.List.Recursion.{is_count_by}
 use Rattle.clk_machine.specs.Plan.{Plan, CpuPlan, count_of, cpu_count, all_words, threads_of}
-use Rattle.clk_machine.specs.Limits.{IsInRange, IsCpu, is_update, IsWithinLimits}
+use Rattle.clk_machine.specs.Limits.{is_second, most_tickets, IsInRange, IsCpu, is_update, IsWithinLimits}
 use Rattle.clk_machine.specs.Tickets.{tickets_of}
 use Rattle.clk_machine.specs.declared.script.Word.{Word}
 use Rattle.clk_tool.specs.Built.{words_of, is_built}
@@ -81,10 +81,14 @@ pub words_in_range : (m : Plan) → IsOneThread m → IsWithinLimits m → All (
 words_in_range m o l =
     rw (words_one m o) (All-repeat (IsInRange 1) (count_of o.cpu.script.repeat) o.cpu.script.words (cpu_in_range m o l).script.range)
 
-pub tickets_few : (m : Plan) → IsOneThread m → IsWithinLimits m → 3 + sum_by tickets_of (words_of m) ≤ 2 ^ 24
+limit_few : (second : Bool) → cond second (2 ^ 26) (2 ^ 24) ≤ most_tickets
+limit_few true = omega arith
+limit_few false = omega arith
+
+pub tickets_few : (m : Plan) → IsOneThread m → IsWithinLimits m → 3 + sum_by tickets_of (words_of m) ≤ most_tickets
 tickets_few m o l =
     let all = rw (o.bringup, o.watchdog, o.percpu, threads_one m o) at l.tickets in
-    omega (arith, all)
+    omega (arith, all, limit_few (is_second m.version))
 
 -- the updates of a script, added up word by word
 one_more_update : (w : Word) (ws : List Word) → sum_by updates_in (w ∷ ws) ≡ cond (is_update w) (1 + sum_by updates_in ws) (sum_by updates_in ws)

@@ -26,11 +26,11 @@ pub record OpensNear (m : Plan) (gtod raw : ℤ) : Type 0 where
   pub opening : IsOpening (opening_by gtod raw)
   pub near : IsFrom0To (2 ^ 57) (above_base m (opens_of (opening_by gtod raw)))
 
-pub opens_near : (m : Plan) (gtod raw : ℤ) → IsValue raw → IsGtod gtod → IsFrom0To (5 * 2 ^ 52) (above_base m raw) → OpensNear m gtod raw
+pub opens_near : (m : Plan) (gtod raw : ℤ) → IsValue raw → IsGtod gtod → IsFrom0To (6 * 2 ^ 52) (above_base m raw) → OpensNear m gtod raw
 opens_near m gtod raw fits time small =
     let opens : opens_of (opening_by gtod raw) ≡ raw = reaches gtod raw fits in
     let same = above_same raw in
     record {
       opening = record { gtod = time; raw = rw opens (omega (arith, ints, same), omega (arith, ints, same)) };
-      near = rw opens (wider (5 * 2 ^ 52) (2 ^ 57) (above_base m raw) (omega arith) small);
+      near = rw opens (wider (6 * 2 ^ 52) (2 ^ 57) (above_base m raw) (omega arith) small);
     }

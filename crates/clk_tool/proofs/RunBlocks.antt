@@ -24,5 +24,5 @@ shows_blocks m call v (Pause ticket count) w h = ap (λ (t : Time). t.blocks) h.
 pub runs_blocks : (m : Plan) (v : Known) (es : List Event) (w : Known) → Runs m v es w → w.time.blocks ≡ v.time.blocks ++ flat_map blocks_of es
 runs_blocks m v [] w r = rw (← r) (sym (append-nil v.time.blocks))
 runs_blocks m v (e ∷ es) w r =
-    runs_blocks m r.0 es w r.2 ∙ ap (λ (bs : List Block). bs ++ flat_map blocks_of es) (shows_blocks m e.call v e.kind r.0 r.1)
-    ∙ append_assoc v.time.blocks (blocks_of e) (flat_map blocks_of es)
+    runs_blocks m r.1 es w r.4 ∙ ap (λ (bs : List Block). bs ++ flat_map blocks_of es) (shows_blocks m e.call r.0 e.kind r.1 r.3)
+    ∙ ap (λ (t : Time). (t.blocks ++ blocks_of e) ++ flat_map blocks_of es) r.2.time_is ∙ append_assoc v.time.blocks (blocks_of e) (flat_map blocks_of es)

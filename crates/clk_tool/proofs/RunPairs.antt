@@ -19,9 +19,8 @@ use Rattle.clk_trace.specs.LegalHistory.{Pair, pair_after, NamesPair, NamesLastS
 use Rattle.clk_trace.specs.declared.event.Event.{Event}
 use Rattle.clk_trace.specs.declared.event.EventKind.{EventKind}
 use Rattle.clk_trace.specs.declared.event.EventKind.TheVariants.{Local, Stamp, Update, Pause}
-use Rattle.clk_tool.specs.Running.{Shows, ShowsLocal, Runs, site}
-use Rattle.clk_tool.proofs.RunKeeping.{shows_fixed}
-use Rattle.clk_tool.proofs.RunSteps.{IsHome, home_stays}
+use Rattle.clk_tool.specs.Running.{Shows, ShowsLocal, HasLooked, Runs, site}
+use Rattle.clk_tool.proofs.RunSteps.{IsHome, home_looked, home_next}
 
 -- what is known of a register ends with x
 pub record HasLast (parts : List Part) (r : ℕ) (x : ℤ) : Type 0 where
@@ -100,7 +99,7 @@ local_pair m start call v w raw tick_raw tick_gtod offset old new p home h ends 
     let why = sym h.why_is ∙ ap (λ (s : Step). s.why) h.raised.step_is in
     let owner : has_number h.raised.pair.pairs.owns 0 ≡ true = ap (λ (x : View). has_number x.pairs.owns 0) second.finds.view_is ∙ half_owner in
     let same = sym h.raised.pairs_is in (
-      (ap raw_of_why why ∙ one.0, ap gtod_of_why why ∙ two.0, ap offset_of_why why ∙ ap (λ (o : Start). o.opening.offset) home.start_is),
+      (ap raw_of_why why ∙ one.0, ap gtod_of_why why ∙ two.0, ap offset_of_why why ∙ h.raised.from_start (ap (λ (o : Start). o.opening.mode) home.start_is ∙ home.percpu) ∙ ap (λ (o : Start). o.opening.offset) home.start_is),
       record {
         raw = subst (λ ps. HasLast ps.parts (raw_of 0) p.raw) same two_else;
         gtod = subst (λ ps. HasLast ps.parts (gtod_of 0) p.gtod) same two.1;
@@ -125,9 +124,13 @@ shows_pair m start call v (Stamp gtod_ticket gtod raw) w p home h ends =
 shows_pair m start call v (Update q) w p home h ends = (tt, subst (λ (x : View). EndsWith x p) (sym h.view_is) ends)
 shows_pair m start call v (Pause ticket count) w p home h ends = (tt, subst (λ (x : View). EndsWith x p) (sym h.view_is) ends)
 
+-- looks leave the pair
+ends_looked : (v w : Known) (p : Pair) → HasLooked v w → EndsWith v.view p → EndsWith w.view p
+ends_looked v w p h ends = subst (λ (x : View). EndsWith x p) (sym h.view_is) (record { raw = ends.raw; gtod = ends.gtod; owner = ends.owner })
+
 pub runs_name : (m : Plan) (start : Start) (v : Known) (es : List Event) (w : Known) (p : Pair) → IsHome start v.view → Runs m v es w → EndsWith v.view p
     → NamesLastStamps start.opening.offset p es
 runs_name m start v [] w p home r ends = tt
 runs_name m start v (e ∷ es) w p home r ends =
-    let here = shows_pair m start e.call v e.kind r.0 p home r.1 ends in
-    (here.0, runs_name m start r.0 es w (pair_after p e.kind) (home_stays start v.view r.0.view (shows_fixed m e.call v e.kind r.0 r.1) home) r.2 here.1)
+    let here = shows_pair m start e.call r.0 e.kind r.1 p (home_looked start v r.0 r.2 home) r.3 (ends_looked v r.0 p r.2 ends) in
+    (here.0, runs_name m start r.1 es w (pair_after p e.kind) (home_next m start v e es w r home) r.4 here.1)

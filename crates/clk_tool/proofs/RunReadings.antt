@@ -13,7 +13,7 @@ use Rattle.clk_trace.specs.RightReadings.{IsRightKind}
 use Rattle.clk_trace.specs.declared.event.Event.{Event}
 use Rattle.clk_trace.specs.declared.event.EventKind.{EventKind}
 use Rattle.clk_trace.specs.declared.event.EventKind.TheVariants.{Local, Stamp, Update, Pause}
-use Rattle.clk_tool.specs.Running.{Shows, Runs}
+use Rattle.clk_tool.specs.Running.{Shows, HasLooked, Runs}
 
 -- what the clock's seat has of the latch
 abbrev pub records_in : Known → List Published
@@ -22,7 +22,11 @@ records_in v = v.epoch.records
 abbrev pub IsOwner : Known → Type 0
 IsOwner v = v.epoch.owner ≡ true
 
--- an event leaves the owner what it is, and adds the record that it published
+-- looks leave the owner what it is
+looked_owner : (v w : Known) → HasLooked v w → IsOwner v → IsOwner w
+looked_owner v w h own = ap (λ (e : Epoch). e.owner) h.epoch_is ∙ own
+
+-- so does an event, which adds the record that it published
 shows_owner : (m : Plan) (call : ℕ) (v : Known) (k : EventKind) (w : Known) → Shows m call v k w → IsOwner v → IsOwner w
 shows_owner m call v (Local raw tick_raw tick_gtod offset old new) w h own = h.raised.reads.reads.kept.0 ∙ own
 shows_owner m call v (Stamp gtod_ticket gtod raw) w h own = h.reads.reads.kept.0 ∙ own
@@ -38,8 +42,10 @@ shows_records m call v (Pause ticket count) w h own = ap (λ (e : Epoch). e.reco
 pub runs_records : (m : Plan) (v : Known) (es : List Event) (w : Known) → Runs m v es w → IsOwner v → records_in w ≡ records_in v ++ updates_of es
 runs_records m v [] w r own = rw (← r) (sym (append-nil (records_in v)))
 runs_records m v (e ∷ es) w r own =
-    runs_records m r.0 es w r.2 (shows_owner m e.call v e.kind r.0 r.1 own)
-    ∙ ap (λ (xs : List Published). xs ++ updates_of es) (shows_records m e.call v e.kind r.0 r.1 own)
+    let here = looked_owner v r.0 r.2 own in
+    runs_records m r.1 es w r.4 (shows_owner m e.call r.0 e.kind r.1 r.3 here)
+    ∙ ap (λ (xs : List Published). xs ++ updates_of es) (shows_records m e.call r.0 e.kind r.1 r.3 here)
+    ∙ ap (λ (x : Epoch). (x.records ++ update_of_kind e.kind) ++ updates_of es) r.2.epoch_is
     ∙ append_assoc (records_in v) (update_of_kind e.kind) (updates_of es)
 
 -- a reading is right by the records that its seat has then, and by more of them
@@ -58,10 +64,10 @@ right_more m records more (Pause ticket count) begins h = tt
 pub runs_right : (m : Plan) (v : Known) (es : List Event) (w : Known) → Runs m v es w → IsOwner v → All (λ e. IsRightKind m 0 (records_in w) e.kind) es
 runs_right m v [] w r own = All-nil (λ e. IsRightKind m 0 (records_in w) e.kind)
 runs_right m v (e ∷ es) w r own =
-    let still = shows_owner m e.call v e.kind r.0 r.1 own in
+    let still = shows_owner m e.call r.0 e.kind r.1 r.3 (looked_owner v r.0 r.2 own) in
     All-cons (λ e. IsRightKind m 0 (records_in w) e.kind) e es
-    (right_more m (records_in r.0) (records_in w) e.kind (updates_of es, sym (runs_records m r.0 es w r.2 still)) (shows_right m e.call v e.kind r.0 r.1))
-    (runs_right m r.0 es w r.2 still)
+    (right_more m (records_in r.1) (records_in w) e.kind (updates_of es, sym (runs_records m r.1 es w r.4 still)) (shows_right m e.call r.0 e.kind r.1 r.3))
+    (runs_right m r.1 es w r.4 still)
 
 -- it names the last record, whose number is how many updates were made
 abbrev HasMadeUpdates : ℕ → Known → Type 0
@@ -85,9 +91,11 @@ shows_number m call v (Pause ticket count) w n h own made = All-nil (λ (rec : �
 pub runs_number : (m : Plan) (v : Known) (es : List Event) (w : Known) (n : ℕ) → Runs m v es w → IsOwner v → length (records_in v) ≡ n + 1 → NamesUpdates n es
 runs_number m v [] w n r own made = tt
 runs_number m v (e ∷ es) w n r own made =
-    let grown = ap length (shows_records m e.call v e.kind r.0 r.1 own) in
-    let count = length-append (records_in v) (update_of_kind e.kind) in
-    let next : length (records_in r.0) ≡ n + length (update_of_kind e.kind) + 1 = omega (arith, grown, count, made) in (
-      shows_number m e.call v e.kind r.0 n r.1 own made,
-      runs_number m r.0 es w (n + length (update_of_kind e.kind)) r.2 (shows_owner m e.call v e.kind r.0 r.1 own) next,
+    let here = looked_owner v r.0 r.2 own in
+    let had : length (records_in r.0) ≡ n + 1 = ap (λ (x : Epoch). length x.records) r.2.epoch_is ∙ made in
+    let grown = ap length (shows_records m e.call r.0 e.kind r.1 r.3 here) in
+    let count = length-append (records_in r.0) (update_of_kind e.kind) in
+    let next : length (records_in r.1) ≡ n + length (update_of_kind e.kind) + 1 = omega (arith, grown, count, had) in (
+      shows_number m e.call r.0 e.kind r.1 n r.3 here had,
+      runs_number m r.1 es w (n + length (update_of_kind e.kind)) r.4 (shows_owner m e.call r.0 e.kind r.1 r.3 here) next,
     )

@@ -2,6 +2,7 @@
 use Rattle.std.proofs.Common.{◌≡◌, ℕ, ℤ, ◌+◌, List, [], ◌∷◌, ◌++◌, map, ap, ◌∙◌, sym, subst, refl, append_assoc, append-nil}
 use Rattle.std.specs.List.{flat_map}
 use Rattle.clk_num.specs.Wrapping.{raise}
+use Rattle.clk_words.specs.declared.opening.Mode.TheVariants.{PerCpu}
 use Rattle.clk_words.specs.declared.opening.Start.{Start}
 use Rattle.clk_words.specs.declared.kind.SeatKind.TheVariants.{Owner}
 use Rattle.clk_words.specs.declared.step.Step.{Step}
@@ -22,13 +23,14 @@ use Rattle.clk_trace.specs.LegalHistory.{IsChain as IsTraceChain}
 use Rattle.clk_trace.specs.declared.event.Event.{Event}
 use Rattle.clk_trace.specs.declared.event.EventKind.{EventKind}
 use Rattle.clk_trace.specs.declared.event.EventKind.TheVariants.{Local, Stamp, Update, Pause}
-use Rattle.clk_tool.specs.Running.{Shows, ShowsLocal, Runs, site}
+use Rattle.clk_tool.specs.Running.{Shows, ShowsLocal, HasLooked, Runs, site}
 use Rattle.clk_tool.specs.Finishing.{Change, change_of, change_in}
 use Rattle.clk_tool.proofs.Rising.{IsUp, raise_is_up}
-use Rattle.clk_tool.proofs.RunKeeping.{Fixed, fixed, pair_fixed, shows_fixed}
+use Rattle.clk_tool.proofs.RunKeeping.{Fixed, fixed, pair_fixed, shows_fixed, looked_fixed}
 
--- the seat is that of the owner of CPU 0, which was given first
+-- the seat is that of the owner of CPU 0, which was given first, of words that began per-CPU
 pub record IsHome (start : Start) (v : View) : Type 0 where
+  pub percpu : start.opening.mode ≡ PerCpu
   pub start_is : v.start ≡ start
   pub number : v.number ≡ 1
   pub kind : v.kind ≡ Owner 0
@@ -36,10 +38,18 @@ pub record IsHome (start : Start) (v : View) : Type 0 where
 pub home_stays : (start : Start) (v w : View) → fixed w ≡ fixed v → IsHome start v → IsHome start w
 home_stays start v w same h =
     record {
+      percpu = h.percpu;
       start_is = ap (λ (f : Fixed). f.start) same ∙ h.start_is;
       number = ap (λ (f : Fixed). f.number) same ∙ h.number;
       kind = ap (λ (f : Fixed). f.kind) same ∙ h.kind;
     }
+
+pub home_looked : (start : Start) (v w : Known) → HasLooked v w → IsHome start v.view → IsHome start w.view
+home_looked start v w looks h = home_stays start v.view w.view (looked_fixed v w looks) h
+
+-- after the first of some events
+pub home_next : (m : Plan) (start : Start) (v : Known) (e : Event) (es : List Event) (w : Known) (r : Runs m v (e ∷ es) w) → IsHome start v.view → IsHome start r.1.view
+home_next m start v e es w r h = home_stays start r.0.view r.1.view (shows_fixed m e.call r.0 e.kind r.1 r.3) (home_looked start v r.0 r.2 h)
 
 -- the step of the clock words that an event is
 abbrev pub word_steps_of : ℕ → EventKind → List Step
@@ -77,8 +87,9 @@ pub runs_mine : (m : Plan) (start : Start) (v : Known) (es : List Event) (w : Kn
     → w.view.mine ≡ v.view.mine ++ word_steps es
 runs_mine m start v [] w home r = rw (← r) (sym (append-nil v.view.mine))
 runs_mine m start v (e ∷ es) w home r =
-    runs_mine m start r.0 es w (home_stays start v.view r.0.view (shows_fixed m e.call v e.kind r.0 r.1) home) r.2
-    ∙ ap (λ (xs : List Step). xs ++ word_steps es) (shows_mine m start e.call v e.kind r.0 home r.1)
+    runs_mine m start r.1 es w (home_next m start v e es w r home) r.4
+    ∙ ap (λ (xs : List Step). xs ++ word_steps es) (shows_mine m start e.call r.0 e.kind r.1 (home_looked start v r.0 r.2 home) r.3)
+    ∙ ap (λ (x : View). (x.mine ++ word_steps_of e.call e.kind) ++ word_steps es) r.2.view_is
     ∙ append_assoc v.view.mine (word_steps_of e.call e.kind) (word_steps es)
 
 -- a reading raises the word to its target, and the word goes up by it
@@ -114,13 +125,14 @@ shows_raise m start call v (Local raw tick_raw tick_gtod offset old new) w home 
     let new_is : new ≡ raise old (target start.tick why) =
     sym h.new_is ∙ made ∙ ap (λ (o : Start). raise h.step.old (target o.tick h.step.why)) home.start_is
     ∙ ap (λ y. raise h.step.old (target start.tick y)) h.why_is ∙ ap (λ x. raise x (target start.tick why)) h.old_is in
-    let pair_start : h.raised.pair.start ≡ start =
-    ap (λ (f : Fixed). f.start) (pair_fixed v.view h.raised.pair h.raised.tick_raw h.raised.tick_gtod h.raised.finds) ∙ home.start_is in
+    let loaded_start : h.raised.loaded.start ≡ start =
+    ap (λ (x : View). x.start) h.raised.finds_offset.view_is
+    ∙ ap (λ (f : Fixed). f.start) (pair_fixed v.view h.raised.pair h.raised.tick_raw h.raised.tick_gtod h.raised.finds) ∙ home.start_is in
     let from : IsClock (opens_at start) old =
-    subst (λ x. IsClock (opens_at start) x) h.old_is (subst (λ (o : Start). IsClock (opens_at o) h.step.old) pair_start h.raised.raises.range) in
+    subst (λ x. IsClock (opens_at start) x) h.old_is (subst (λ (o : Start). IsClock (opens_at o) h.step.old) loaded_start h.raised.raises.range) in
     let to : IsClock (opens_at start) new =
     subst (λ x. IsClock (opens_at start) x) h.new_is
-    (subst (λ (o : Start). IsClock (opens_at o) h.step.new) pair_start (new_range h.raised.pair w.view h.step h.raised.raises)) in
+    (subst (λ (o : Start). IsClock (opens_at o) h.step.new) loaded_start (new_range h.raised.loaded w.view h.step h.raised.raises)) in
     record {
       new_is = new_is;
       up =
@@ -135,8 +147,8 @@ pub runs_raise : (m : Plan) (start : Start) (v : Known) (es : List Event) (w : K
     → AllRaise start.tick (opens_at start) es
 runs_raise m start v [] w home r = tt
 runs_raise m start v (e ∷ es) w home r = (
-  shows_raise m start e.call v e.kind r.0 home r.1,
-  runs_raise m start r.0 es w (home_stays start v.view r.0.view (shows_fixed m e.call v e.kind r.0 r.1) home) r.2,
+  shows_raise m start e.call r.0 e.kind r.1 (home_looked start v r.0 r.2 home) r.3,
+  runs_raise m start r.1 es w (home_next m start v e es w r home) r.4,
 )
 
 -- all of them are on the one word

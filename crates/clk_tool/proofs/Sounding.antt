@@ -1,10 +1,11 @@
 -- Sound seats stay sound.
-use Rattle.std.proofs.Common.{◌≡◌, ℕ, ℤ, ◌^◌, ◌<◌, pos, refl, get_or, List, [], ◌∷◌, ap, ◌∙◌, sym, subst}
+use Rattle.std.proofs.Common.{◌≡◌, ℕ, ℤ, ◌<◌, pos, refl, get_or, List, [], ◌∷◌, ap, ◌∙◌, sym, subst}
 use Rattle.clk_base.specs.declared.block.Block.{Block}
 use Rattle.std.proofs.lemmas.List.Elements.{All-nil}
 use Rattle.clk_base.specs.Blocks.{times_in}
 use Rattle.clk_ticket.specs.Time.{Tickets, Time, Draws}
 use Rattle.clk_machine.specs.Plan.{Plan}
+use Rattle.clk_machine.specs.Limits.{most_tickets}
 use Rattle.clk_machine.specs.Records.{record_zero, AreRecords}
 use Rattle.clk_machine.specs.declared.reading.RawReading.{RawReading}
 use Rattle.clk_machine.specs.declared.reading.Published.{Published}
@@ -14,12 +15,17 @@ use Rattle.clk_latch.specs.Calls.{AreDrawn, DrawsTicket, Reads, Updates}
 use Rattle.clk_latch.proofs.Staying.{stay_drawn}
 use Rattle.clk_local.specs.Context.{Known, BeginsAtBase}
 use Rattle.clk_local.specs.Shows.{ShowsRaised, ShowsStamp}
-use Rattle.clk_tool.specs.Running.{IsSound, site}
+use Rattle.clk_tool.specs.Running.{IsSound, HasLooked, site}
 use Rattle.clk_tool.specs.Booting.{HasEpoch}
 
 -- the records of a counter begin with the machine's base
 pub sound_base : (m : Plan) (cpu : ℕ) (adjust : ℤ) (epoch : Epoch) → AreRecords m cpu adjust epoch.records → BeginsAtBase m epoch
 sound_base m cpu adjust epoch r = record { zero = λ d. ap (λ ps. (get_or ps 0 d).ns) r.all }
+
+-- after looks
+pub looked_sound : (m : Plan) (total : ℕ) (v w : Known) → HasLooked v w → IsSound m total v.epoch v.time → IsSound m total w.epoch w.time
+looked_sound m total v w h s =
+    subst (λ (e : Epoch). IsSound m total e w.time) (sym h.epoch_is) (subst (λ (t : Time). IsSound m total v.epoch t) (sym h.time_is) s)
 
 -- after a draw
 pub draws_sound : (m : Plan) (total : ℕ) (epoch : Epoch) (t after : Time) (first n : ℕ) → IsSound m total epoch t → Draws t first n after → IsSound m total epoch after
@@ -70,7 +76,7 @@ stamp_sound m total call v w gtod_ticket gtod stamp s h =
     (draws_sound m total v.epoch h.middle w.time stamp.ticket 1 (draws_sound m total v.epoch v.time h.middle gtod_ticket 1 s h.draws) h.reads.draws) h.reads.reads
 
 -- at first: record 0 alone, and the ticket of the epoch
-pub begin_sound : (m : Plan) (tickets : Tickets) (time : Time) → HasEpoch tickets time → IsSound m (2 ^ 24) (owner_of (record_zero m) 1024) time
+pub begin_sound : (m : Plan) (tickets : Tickets) (time : Time) → HasEpoch tickets time → IsSound m most_tickets (owner_of (record_zero m) 1024) time
 begin_sound m tickets time d =
     record {
       owner = refl;

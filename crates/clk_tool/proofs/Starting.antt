@@ -5,7 +5,6 @@ use Rattle.clk_words.specs.declared.opening.Start.{Start}
 use Rattle.clk_words.specs.declared.view.View.{View}
 use Rattle.clk_words.specs.Held.{Held, place_of}
 use Rattle.clk_words.specs.Histories.{opens_at}
-use Rattle.clk_words.specs.Knowing.{HasFoundPerCpu}
 use Rattle.clk_words.specs.Views.{first_view, given_view}
 use Rattle.clk_words.specs.declared.kind.SeatKind.TheVariants.{Owner}
 use Rattle.clk_machine.specs.Plan.{Plan}
@@ -32,7 +31,7 @@ stamps_first : (m : Plan) (s : StableStamp) → MayStamp (owner_view m s)
 stamps_first m s = record { owner = refl; whole = refl }
 
 home_first : (m : Plan) (s : StableStamp) → IsHome (start_of m s) (owner_view m s)
-home_first m s = record { start_is = refl; number = refl; kind = refl }
+home_first m s = record { percpu = refl; start_is = refl; number = refl; kind = refl }
 
 pair_first : (m : Plan) (s : StableStamp) → EndsWith (owner_view m s) (record { raw = s.raw.ns; gtod = s.gtod })
 pair_first m s =
@@ -67,7 +66,7 @@ may_run b built h =
       latch = h.latch;
       tickets = h.stamped.table;
       kind = ap (λ (x : Held). x.view.kind) h.owner;
-      found = subst HasFoundPerCpu (sym (owner_is m b h)) refl;
+      percpu = ap (λ (v : View). v.start.opening.mode) (owner_is m b h);
       base = sound_base m 0 (pos 0) b.seats.latch.epoch h.stamped.sound.records;
       opening = subst (λ (v : View). IsFrom0To (2 ^ 57) (above_base m (opens_at v.start))) (sym (owner_is m b h)) h.stamped.near;
       may_stamp = subst MayStamp (sym (owner_is m b h)) (stamps_first m b.stamp);

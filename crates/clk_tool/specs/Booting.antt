@@ -10,7 +10,7 @@ use Rattle.clk_words.specs.declared.opening.Start.{Start}
 use Rattle.clk_words.specs.Bounds.{opens_of, IsOpening}
 use Rattle.clk_words.specs.Views.{first_view, giver_view, given_view}
 use Rattle.clk_machine.specs.Plan.{Plan}
-use Rattle.clk_machine.specs.Limits.{IsWithinLimits}
+use Rattle.clk_machine.specs.Limits.{most_tickets, IsWithinLimits}
 use Rattle.clk_machine.specs.Records.{record_zero, above_base}
 use Rattle.clk_latch.specs.Epoch.{Epoch}
 use Rattle.clk_local.specs.Context.{Known}
@@ -23,7 +23,7 @@ use Rattle.clk_tool.specs.declared.boot.Seats.{Seats}
 
 -- the epoch drew ticket 0 of the whole of a table
 abbrev pub HasEpoch : Tickets → Time → Type 0
-HasEpoch tickets time = Draws (fresh tickets.table (2 ^ 24) 0) 0 1 time
+HasEpoch tickets time = Draws (fresh tickets.table most_tickets 0) 0 1 time
 
 -- the clock words open by a stamp
 abbrev pub opening_of : StableStamp → Opening
@@ -34,10 +34,10 @@ pub record HasStamped (m : Plan) (tickets : Tickets) (time : Time) (epoch : Epoc
   pub right : IsRightStamp m stamp
   pub table : time.table ≡ tickets.table
   pub blocks : time.blocks ≡ boot_blocks 0 (stamp ∷ [])
-  pub left : time.left + 3 ≡ 2 ^ 24
+  pub left : time.left + 3 ≡ most_tickets
   pub records : epoch.records ≡ record_zero m ∷ []
   pub updates : epoch.left ≡ 1024
-  pub sound : IsSound m (2 ^ 24) epoch time
+  pub sound : IsSound m most_tickets epoch time
   pub offset : stamp.offset ≡ wrap (stamp.raw.ns -ℤ stamp.gtod)
   pub opening : IsOpening (opening_of stamp)
   pub near : IsFrom0To (2 ^ 57) (above_base m (opens_of (opening_of stamp)))
@@ -49,7 +49,7 @@ start_of m s = record { cpus = 1; tick = m.tick; opening = opening_of s }
 pub record IsBooted (m : Plan) (b : Boot) : Type 0 where
   pub limits : IsWithinLimits m
   pub machine : b.shared.machine ≡ m
-  pub total : b.shared.tickets.total ≡ 2 ^ 24
+  pub total : b.shared.tickets.total ≡ most_tickets
   pub epoch : b.epoch ≡ record_zero m
   pub latch : b.seats.latch.latch ≡ b.shared.latch
   pub stamped : HasStamped m b.shared.tickets b.seats.time b.seats.latch.epoch b.stamp

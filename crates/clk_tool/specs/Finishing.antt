@@ -9,10 +9,9 @@ use Rattle.clk_words.specs.declared.opening.Mode.TheVariants.{PerCpu}
 use Rattle.clk_words.specs.declared.step.Step.{Step}
 use Rattle.clk_words.specs.declared.view.View.{View}
 use Rattle.clk_words.specs.Held.{place_of}
-use Rattle.clk_words.specs.Knowing.{HasFoundPerCpu}
 use Rattle.clk_words.specs.Histories.{opens_at, steps_on, IsChain}
 use Rattle.clk_machine.specs.Plan.{Plan}
-use Rattle.clk_machine.specs.Limits.{IsWithinLimits}
+use Rattle.clk_machine.specs.Limits.{most_tickets, IsWithinLimits}
 use Rattle.clk_machine.specs.Records.{above_base}
 use Rattle.clk_local.specs.Context.{Known, BeginsAtBase, MayStamp}
 use Rattle.clk_trace.specs.ScriptEvents.{AreEventsOf}
@@ -39,7 +38,7 @@ pub record MayRun (s : Shared) (v : Seats) : Type 0 where
   pub latch : v.latch.latch ≡ s.latch
   pub tickets : v.time.table ≡ s.tickets.table
   pub kind : v.owner.view.kind ≡ Owner 0
-  pub found : HasFoundPerCpu v.owner.view
+  pub percpu : v.owner.view.start.opening.mode ≡ PerCpu
   pub base : BeginsAtBase s.machine v.latch.epoch
   pub opening : IsFrom0To (2 ^ 57) (above_base s.machine (opens_at v.owner.view.start))
   pub may_stamp : MayStamp v.owner.view
@@ -92,7 +91,7 @@ pub record IsRunOf (m : Plan) (t : Trace) (closed : List Step) : Type 0 where
   pub history : Listed HistoryStep
   pub script : AreEventsOf 0 0 (words_of m) events.items
   pub runs : Runs m (known_by boot.seats) events.items after
-  pub sound : IsSound m (2 ^ 24) after.epoch after.time
+  pub sound : IsSound m most_tickets after.epoch after.time
   pub finished : Covers after.time.blocks t.tickets
   pub closed_is : closed ≡ after.view.mine
   pub chain : IsChain (opens_at (start_of m boot.stamp)) (steps_on 0 after.view.mine)

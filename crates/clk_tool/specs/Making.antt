@@ -1,6 +1,7 @@
 -- What a thread of a run has made.
 use Rattle.std.specs.Prelude.{◌≡◌, ℕ, ◌+◌, ◌*◌, ◌≤◌, pos, List, ◌++◌, length, map, take, if◌then◌else◌}
 use Rattle.std.specs.List.{sum_by}
+use Rattle.clk_words.specs.declared.opening.Mode.TheVariants.{PerCpu}
 use Rattle.clk_machine.specs.Plan.{Plan}
 use Rattle.clk_machine.specs.Limits.{is_update, IsWithinLimits}
 use Rattle.clk_machine.specs.Tickets.{tickets_of}
@@ -23,11 +24,13 @@ machine_of t = t.ctx.counter.machine.now
 abbrev pub known : Thread → Known
 known t = known_of (λ s. s.epoch) t.ctx
 
--- the context serves every word of CPU 0's script
+-- the context serves every word of CPU 0's script; its clock is per-CPU from the start
 pub record Serves {E S : Type 0} (fits : E → S → Type 0) (epoch : S → Epoch) (ctx : Ctx E S) : Type 0 where
   pub limits : IsWithinLimits ctx.counter.machine.now
   pub cpu : ctx.counter.cpu ≡ 0
   pub adjust : ctx.counter.adjust ≡ pos 0
+  pub sched_offset : ctx.sched_offset ≡ pos 0
+  pub percpu : ctx.seat.view.start.opening.mode ≡ PerCpu
   pub usable : IsUsable fits epoch ctx
   pub may_stamp : MayStamp ctx.seat.view
   pub sound : IsSound ctx.counter.machine.now ctx.tickets.now.total (epoch ctx.latch_seat) ctx.time

@@ -11,7 +11,7 @@ use Rattle.clk_machine.specs.declared.reading.RawReading.{RawReading}
 use Rattle.clk_machine.specs.declared.reading.Published.{Published}
 use Rattle.clk_latch.specs.Epoch.{Epoch}
 use Rattle.clk_latch.specs.Calls.{AreDrawn, DrawsTicket, Updates}
-use Rattle.clk_local.specs.Context.{Site, Known}
+use Rattle.clk_local.specs.Context.{Site, Known, looked_as}
 use Rattle.clk_local.specs.Shows.{ShowsRaised, ShowsStamp}
 use Rattle.clk_local.specs.declared.events.Reading.{Reading}
 use Rattle.clk_local.specs.declared.events.Reading.TheVariants.{Stable, PerCpu}
@@ -23,7 +23,7 @@ use Rattle.clk_trace.specs.declared.event.EventKind.TheVariants.{Local, Stamp, U
 
 -- where the thread of CPU 0 makes a call
 abbrev pub site : Plan → ℕ → Site
-site m call = record { machine = m; cpu = 0; adjust = pos 0; call = call }
+site m call = record { machine = m; cpu = 0; adjust = pos 0; sched_offset = pos 0; call = call }
 
 -- the seats are the owner's of the latch, with the records of CPU 0, and one that has all tickets of the run, drawn or left
 pub record IsSound (m : Plan) (total : ℕ) (epoch : Epoch) (time : Time) : Type 0 where
@@ -79,7 +79,13 @@ Shows m call v (Stamp gtod_ticket gtod raw) w = ShowsStamp (site m call) v gtod_
 Shows m call v (Update p) w = ShowsUpdate m v p w
 Shows m call v (Pause ticket count) w = ShowsPause v ticket count w
 
--- these events, one after another, took them from v to w
+-- looks at the mode, or none, and nothing else
+pub record HasLooked (v w : Known) : Type 0 where
+  pub view_is : w.view ≡ looked_as w.view v.view
+  pub epoch_is : w.epoch ≡ v.epoch
+  pub time_is : w.time ≡ v.time
+
+-- these events, one after another, took them from v to w; before each there may be looks
 abbrev pub Runs : Plan → Known → List Event → Known → Type 0
 Runs m v [] w = v ≡ w
-Runs m v (e ∷ es) w = (u : Known) × Shows m e.call v e.kind u × Runs m u es w
+Runs m v (e ∷ es) w = (t : Known) × (u : Known) × HasLooked v t × Shows m e.call t e.kind u × Runs m u es w

@@ -1,5 +1,6 @@
-ghost use Rattle.std.specs.Prelude.{◌≡◌, ◌^◌, IfOk};
-ghost use Rattle.clk_machine.specs.Limits.{IsWithinLimits};
+//! The boot of a machine: the epoch, the first stamp, and the tables and seats that its run stands on.
+ghost use Rattle.std.specs.Prelude.{◌≡◌, IfOk};
+ghost use Rattle.clk_machine.specs.Limits.{most_tickets, IsWithinLimits};
 ghost use Rattle.clk_machine.specs.Records.{record_zero};
 ghost use Rattle.clk_ticket.specs.Time.{fresh};
 ghost use Rattle.clk_latch.specs.Epoch.{owner_of};
@@ -14,7 +15,7 @@ use clk_words::{Mode, Opening, Seat, SeatKind, Words};
 use std::alloc::{AllocError, Global};
 
 // The most that a machine may need.
-const TICKETS: u64 = 1 << 24;
+const TICKETS: u64 = 1 << 26;
 
 const UPDATES: u32 = 1024;
 
@@ -77,10 +78,9 @@ pub fn boot_machine(alloc: Global, machine: Machine) -> Result<Boot, AllocError>
 
 /// Record 0: the counter of CPU 0 at the first ticket, which is ticket 0, since all tickets were left before, and the base
 /// of the machine's clocks in ns.
-#[tactic(auto, unfolding(clk_machine::specs::Records::base_of))]
 fn read_epoch(machine: &Machine, tickets: &TicketTable, time: &mut TimeSeat) -> Published
     requires limits { IsWithinLimits machine.now }
-    requires time { time.old ≡ fresh tickets.now.table (2 ^ 24) 0 }
+    requires time { time.old ≡ fresh tickets.now.table most_tickets 0 }
     ensures epoch { result ≡ record_zero machine.now }
     ensures time { HasEpoch tickets.now time.new }
 {
@@ -89,7 +89,7 @@ fn read_epoch(machine: &Machine, tickets: &TicketTable, time: &mut TimeSeat) -> 
         rec: 0,
         ticket,
         cyc: machine.counter(0, 0, ticket),
-        ns: 0,
+        ns: machine.base(),
     }
 }
 

@@ -1,3 +1,4 @@
+//! What the words of a command line ask for.
 ghost use Rattle.std.specs.Prelude.{◌≡◌, IfSome};
 ghost use Rattle.clk_tool.specs.Commands.{command_asked, IsInRange, rate_of, number_of, is_plain};
 

@@ -1,3 +1,4 @@
+//! What sources give, what sinks take, and what is read whole, with their faults.
 use crate::memory::{MemSink, MemSource};
 use crate::source::Source;
 use crate::standard::{StdSink, StdSource};

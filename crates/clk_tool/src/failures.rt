@@ -1,3 +1,4 @@
+//! Which calls of an end in memory fail.
 ghost use Rattle.std.specs.Prelude.{◌≡◌, ◌<◌, ◌≤◌, is_err};
 ghost use Rattle.clk_base.specs.Causes.{one_more, HasCause};
 ghost use Rattle.clk_tool.specs.Failures.{fresh, fails_next, after_call};

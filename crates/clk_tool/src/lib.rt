@@ -10,8 +10,9 @@
 //!   [`StdSink`]) what a file or a terminal holds is known to no contract.
 //! - The runner makes the boot and the script of the one CPU on the calling thread, by its seats at the ticket table, the
 //!   latch and the clock words that threads share: so the trace's last number, its readings and its histories are what
-//!   these tables answered. As in Linux 6.1's `kernel/sched/clock.c` with a per-CPU clock, ticks stamp, and readings
-//!   never fall and never pass the end of their tick, by the sign of a difference: clock values wrap at 64 bits.
+//!   these tables answered. The words begin per-CPU, and each look at the mode finds that: so, as in Linux 6.1's
+//!   `kernel/sched/clock.c` then, ticks stamp, and readings never fall and never pass the end of their tick, by the sign
+//!   of a difference: clock values wrap at 64 bits.
 //!
 //! No call waits, and all return.
 #![tactic(auto)]

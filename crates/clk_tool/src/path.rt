@@ -1,60 +1,13 @@
 //! How a place in a machine file is printed.
-use clk_machine::Place;
+use clk_machine::{Place, ROW_NAMES};
 use std::fmt;
 
 /// An unknown key has the row of its table plus this.
 const UNKNOWN: u32 = 100;
 
-/// The table and the key of each row, from row 1 on. A table's own row has no key, and the top table no name.
-const NAMES: [(&str, &str); 43] = [
-    ("", "version"),
-    ("", "cpus"),
-    ("", "step"),
-    ("", "tick"),
-    ("", "bits"),
-    ("", "nominal_khz"),
-    ("", "stable"),
-    ("reference", ""),
-    ("reference", "khz"),
-    ("reference", "bits"),
-    ("reference", "rating"),
-    ("reference", "margin"),
-    ("cpu", ""),
-    ("cpu", "khz"),
-    ("cpu", "offset"),
-    ("cpu", "jumps"),
-    ("cpu", "repeat"),
-    ("cpu", "script"),
-    ("reader", ""),
-    ("reader", "cpu"),
-    ("reader", "repeat"),
-    ("reader", "script"),
-    ("delay", ""),
-    ("delay", "ticket"),
-    ("delay", "ns"),
-    ("bringup", ""),
-    ("bringup", "adjust"),
-    ("bringup", "timeout_us"),
-    ("bringup", "turns"),
-    ("watchdog", ""),
-    ("watchdog", "checks"),
-    ("watchdog", "pause"),
-    ("watchdog", "skew"),
-    ("watchdog", "retries"),
-    ("source", ""),
-    ("source", "name"),
-    ("source", "tsc"),
-    ("source", "rating"),
-    ("source", "margin"),
-    ("source", "nominal_khz"),
-    ("source", "khz"),
-    ("source", "bits"),
-    ("source", "jumps"),
-];
-
 /// The table and the key of a row.
 fn names_of(row: u32) -> (&'static str, &'static str) {
-    match NAMES.get((row as usize).wrapping_sub(1)) {
+    match ROW_NAMES.get((row as usize).wrapping_sub(1)) {
         Some(names) => *names,
         None => ("", ""),
     }

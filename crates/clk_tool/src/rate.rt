@@ -1,3 +1,4 @@
+//! The command `rate`: the lines of the scheduler clock's rate.
 ghost use Rattle.std.specs.Prelude.{◌≡◌, ◌⊎◌, ◌≤◌, OnOk, OnErr};
 ghost use Rattle.clk_base.specs.Causes.{Rose, Grew, GrewByPrefix, HasCause};
 ghost use Rattle.clk_tool.specs.Rate.{rate_text};

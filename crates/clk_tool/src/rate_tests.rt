@@ -1,3 +1,4 @@
+//! The command `rate` by its worked rows and at the edges of its words.
 use crate::memory::{MemSink, MemSource};
 use crate::rate::rate_command;
 use crate::status::Status;

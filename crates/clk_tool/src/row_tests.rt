@@ -1,3 +1,4 @@
+//! Worked runs and refusals through the top call.
 use crate::memory::{MemSink, MemSource};
 use crate::status::{Refusal, Status};
 use crate::sure::{SureSink, SureSource};
@@ -12,10 +13,16 @@ use std::test::Fail;
 const HEAD: &str =
     "trace 1\nepoch 0 0\nboot 1 10 2 20 0 20\nstart percpu 0 10\nword 0 20\nthread 0 0\n";
 
-// A machine file of one CPU at 1 GHz.
-fn file(alloc: Global, step: &str, tick: &str, script: &str) -> Result<String, AllocError> {
+// A machine file of one CPU at 1 GHz. Its version may have further lines after it.
+fn file(
+    alloc: Global,
+    version: &str,
+    step: &str,
+    tick: &str,
+    script: &str,
+) -> Result<String, AllocError> {
     format!(in alloc;
-        "version = 1\ncpus = 1\nstep = {step}\ntick = {tick}\nnominal_khz = 1000000\nstable = false\n[reference]\nkhz = 1000000\n[[cpu]]\nscript = [{script}]\n"
+        "version = {version}\ncpus = 1\nstep = {step}\ntick = {tick}\nnominal_khz = 1000000\nstable = false\n[reference]\nkhz = 1000000\n[[cpu]]\nscript = [{script}]\n"
     )
 }
 
@@ -43,11 +50,12 @@ fn run<G: Gate>(alloc: Global, text: &str, gate: &G) -> Result<(Status, Vec<u8>)
 // The same, of a file of one CPU at 1 GHz.
 fn run_file(
     alloc: Global,
+    version: &str,
     step: &str,
     tick: &str,
     script: &str,
 ) -> Result<(Status, Vec<u8>), AllocError> {
-    let text = file(alloc, step, tick, script)?;
+    let text = file(alloc, version, step, tick, script)?;
     run(alloc, text.as_str(), &OpenGate)
 }
 
@@ -61,24 +69,13 @@ fn refused(alloc: Global, text: &str) -> Result<Status, AllocError> {
     })
 }
 
-// The same, of a text in two parts.
-fn refused_parts(alloc: Global, head: &str, rest: &str) -> Result<Status, AllocError> {
-    let text = format!(in alloc; "{head}{rest}\n")?;
-    refused(alloc, text.as_str())
+// The line that the program prints of a file of a version that goes on so; it is empty where anything was written.
+fn line_of(alloc: Global, version: &str, more: &str, rest: &str) -> Result<String, AllocError> {
+    let text = format!(in alloc;
+        "version = {version}\nstep = 10\nnominal_khz = 1000000\nreference.khz = 1000000\n{more}{rest}\n"
+    )?;
+    refused(alloc, text.as_str())?.to_string(alloc)
 }
-
-// The step and the tick of a file are out of range.
-const STEP: Status = Status::Refused(Refusal::Value(Place {
-    row: 3,
-    entry: 0,
-    item: 0,
-}));
-
-const TICK: Status = Status::Refused(Refusal::Value(Place {
-    row: 4,
-    entry: 0,
-    item: 0,
-}));
 
 // Whether these bytes are one text and then another.
 fn is_after(head: &str, rest: &str, bytes: &[u8]) -> bool {
@@ -117,9 +114,26 @@ const TRACES: [(&str, &str); 7] = [
 #[test]
 fn traces_are_those_of_the_worked_runs(rt: HostRuntime) -> Result<(), Fail> {
     for (script, rest) in TRACES {
-        let (status, written) = run_file(rt.alloc(), "10", "1000000", script)?;
+        let (status, written) = run_file(rt.alloc(), "1", "10", "1000000", script)?;
         assert_eq!(rt; status, Status::Done);
         assert!(rt; is_after(HEAD, rest, written.as_slice()), "at {script}");
+    }
+    Ok(())
+}
+
+// What a base near the end of the range makes of the first of these runs.
+const WRAPPING: &str =
+    "trace 1\nepoch 0 0\nboot 1 10 2 20 0 9223372036854775802\nstart percpu 0 9223372036854775792\nword 0 9223372036854775802\nthread 0 0\n0 local 3 30 0 -9223372036854775804 9223372036854775802 10 9223372036854775792 9223372036854775802 -9223372036854775804\nhistory 0 1\n0 0 9223372036854775802 -9223372036854775804\nend 4\n";
+
+#[test]
+fn a_base_wraps_the_clock(rt: HostRuntime) -> Result<(), Fail> {
+    for (version, line, trace) in [
+        ("2\nbase = 9223372036854775782", "", WRAPPING),
+        ("1\nbase = 9223372036854775782", "refused 2 ?", ""),
+    ] {
+        let (status, written) = run_file(rt.alloc(), version, "10", "1000000", "\"local\"")?;
+        assert_eq!(rt; status.to_string(rt.alloc())?.as_str(), line);
+        assert_eq!(rt; written.as_slice(), trace.as_bytes(), "at {version}");
     }
     Ok(())
 }
@@ -188,56 +202,76 @@ const UNBUILT: [&str; 6] = [
 
 #[test]
 fn forms_that_are_not_built_are_refused_last(rt: HostRuntime) -> Result<(), Fail> {
-    let head = "version = 1\nstep = 10\nnominal_khz = 1000000\nreference.khz = 1000000\n";
-    let wrong =
-        "tick = 0\nversion = 1\nstep = 10\nnominal_khz = 1000000\nreference.khz = 1000000\n";
     for form in UNBUILT {
-        assert_eq!(rt;
-            refused_parts(rt.alloc(), head, form)?,
-            Status::Refused(Refusal::Unbuilt)
-        );
-        assert_eq!(rt; refused_parts(rt.alloc(), wrong, form)?, TICK);
+        for version in ["1", "2"] {
+            let last = line_of(rt.alloc(), version, "", form)?;
+            assert_eq!(rt; last.as_str(), "refused 7");
+            let first = line_of(rt.alloc(), version, "tick = 0\n", form)?;
+            assert_eq!(rt; first.as_str(), "refused 3 tick");
+        }
     }
     Ok(())
 }
 
-// The longest pause that there are tickets for.
-const MOST: &str = "\"pause 16777213\"";
-
-// The step, the tick and the script of a file at a limit, and the answer.
-const LIMITS: [(&str, &str, &str, Status); 9] = [
-    ("10", "1000000", MOST, Status::Done),
+// The version, the step, the tick and the script of a file at a limit, and the line that the program prints or the end of
+// the trace.
+const LIMITS: [(&str, &str, &str, &str, &str); 13] = [
+    ("1", "10", "1000000", "\"pause 16777213\"", "end 16777216\n"),
     (
+        "1",
         "10",
         "1000000",
         "\"pause 16777214\"",
-        Status::Refused(Refusal::Tickets { needed: 16_777_217 }),
+        "refused 6 16777217",
     ),
     (
+        "2",
+        "10",
+        "1000000",
+        "\"pause 16777216\", \"pause 16777216\", \"pause 16777216\", \"pause 16777213\"",
+        "end 67108864\n",
+    ),
+    (
+        "2",
+        "10",
+        "1000000",
+        "\"pause 16777216\", \"pause 16777216\", \"pause 16777216\", \"pause 16777214\"",
+        "refused 6 67108865",
+    ),
+    (
+        "2",
+        "10",
+        "1000000",
+        "\"pause 16777217\"",
+        "refused 3 cpu[0].script[0]",
+    ),
+    (
+        "1",
         "10",
         "1000000",
         "\"pause 0\"",
-        Status::Refused(Refusal::Value(Place {
-            row: 18,
-            entry: 1,
-            item: 1,
-        })),
+        "refused 3 cpu[0].script[0]",
     ),
-    ("1", "1", "\"tick\"", Status::Done),
-    ("16384", "1073741824", "\"tick\"", Status::Done),
-    ("0", "1", "", STEP),
-    ("16385", "1", "", STEP),
-    ("1", "0", "", TICK),
-    ("1", "1073741825", "", TICK),
+    ("3", "1", "1", "", "refused 3 version"),
+    ("1", "1", "1", "\"tick\"", "end 6\n"),
+    ("1", "16384", "1073741824", "\"tick\"", "end 6\n"),
+    ("1", "0", "1", "", "refused 3 step"),
+    ("1", "16385", "1", "", "refused 3 step"),
+    ("1", "1", "0", "", "refused 3 tick"),
+    ("1", "1", "1073741825", "", "refused 3 tick"),
 ];
 
 #[test]
 fn limits_are_those_of_the_format(rt: HostRuntime) -> Result<(), Fail> {
-    for (step, tick, script, want) in LIMITS {
-        let (status, written) = run_file(rt.alloc(), step, tick, script)?;
-        assert_eq!(rt; status, want);
-        assert_eq!(rt; written.is_empty(), want != Status::Done);
-        assert!(rt; script != MOST || written.as_slice().ends_with(b"end 16777216\n"));
+    for (version, step, tick, script, want) in LIMITS {
+        let (status, mut shown) = run_file(rt.alloc(), version, step, tick, script)?;
+        shown.extend_from_slice(status.to_string(rt.alloc())?.as_bytes())?;
+        assert!(rt; shown.as_slice().ends_with(want.as_bytes()), "at {want}");
+        assert_eq!(rt;
+            shown.len() == want.len(),
+            status != Status::Done,
+            "at {want}"
+        );
     }
     Ok(())
 }
@@ -259,7 +293,7 @@ fn scripts_have_at_most_65536_words(rt: HostRuntime) -> Result<(), Fail> {
         for _ in 0..count {
             script.push_str("\"local\",")?;
         }
-        let (status, _) = run_file(rt.alloc(), "10", "1000000", script.as_str())?;
+        let (status, _) = run_file(rt.alloc(), "1", "10", "1000000", script.as_str())?;
         assert_eq!(rt; status, want);
     }
     Ok(())
@@ -287,7 +321,7 @@ fn run_noted(
     let gate = NotingGate {
         notes: RefCell::new(Vec::new(alloc)),
     };
-    let text = file(alloc, "10", "1000000", script)?;
+    let text = file(alloc, "1", "10", "1000000", script)?;
     let (status, written) = run(alloc, text.as_str(), &gate)?;
     let NotingGate { notes } = gate;
     Ok((status, !written.is_empty(), notes.into_inner()))
@@ -320,39 +354,75 @@ fn a_refused_file_passes_no_gate(rt: HostRuntime) -> Result<(), Fail> {
     Ok(())
 }
 
-// How a file goes on that is refused, and the line that the program prints.
-const REFUSALS: [(&str, &str); 10] = [
-    ("cpu = [{}]", "refused 2 cpus"),
-    ("cpus = 1\ntick = 0\ncpu = [{}]", "refused 3 tick"),
-    ("cpus = 1\ntick = 0\ncolour = 1\ncpu = [{}]", "refused 2 ?"),
+// How a file goes on that is refused, and the lines that the program prints of it in version 1 and in version 2.
+const REFUSALS: [(&str, &str, &str); 14] = [
+    ("cpu = [{}]", "refused 2 cpus", "refused 2 cpus"),
+    (
+        "cpus = 1\ntick = 0\ncpu = [{}]",
+        "refused 3 tick",
+        "refused 3 tick",
+    ),
+    (
+        "cpus = 1\ntick = 0\ncolour = 1\ncpu = [{}]",
+        "refused 2 ?",
+        "refused 2 ?",
+    ),
     (
         "cpus = 1\ncpu = [{ script = [\"local\", \"locl\"] }]",
+        "refused 4 cpu[0].script[1]",
         "refused 4 cpu[0].script[1]",
     ),
     (
         "cpus = 2\ncpu = [{ script = [\"remote 9\"] }, {}]",
         "refused 5 cpu[0].script[0]",
+        "refused 5 cpu[0].script[0]",
     ),
-    ("cpus = 2\ncpu = [{}, { speed = 1 }]", "refused 2 cpu[1].?"),
-    ("cpus = 1\ncpu = [1]", "refused 3 cpu[0]"),
-    ("cpus = 1\ncpu = 1", "refused 3 cpu"),
+    (
+        "cpus = 2\ncpu = [{}, { speed = 1 }]",
+        "refused 2 cpu[1].?",
+        "refused 2 cpu[1].?",
+    ),
+    (
+        "cpus = 1\ncpu = [1]",
+        "refused 3 cpu[0]",
+        "refused 3 cpu[0]",
+    ),
+    ("cpus = 1\ncpu = 1", "refused 3 cpu", "refused 3 cpu"),
     (
         "cpus = 1\ncpu = [{ jumps = [[1, 1], [0, 1]] }]",
         "refused 3 cpu[0].jumps[1]",
+        "refused 3 cpu[0].jumps[1]",
     ),
     (
-        "cpus = 1\ncpu = [{ script = [\"pause 16777214\"] }]",
-        "refused 6 16777217",
+        "cpus = 1\ncpu = [{ repeat = 4, script = [\"pause 16777216\"] }]",
+        "refused 6 67108867",
+        "refused 6 67108867",
     ),
+    (
+        "cpus = 1\nbase = true\ncpu = [{}]",
+        "refused 2 ?",
+        "refused 3 base",
+    ),
+    (
+        "cpus = 1\ncpu = [{ socket = 64 }]",
+        "refused 2 cpu[0].?",
+        "refused 3 cpu[0].socket",
+    ),
+    (
+        "cpus = 1\ncpu = [{}]\nbringup = { adjust = true, timeout_us = 0, turns = 0, first_us = -1 }",
+        "refused 2 bringup.?",
+        "refused 3 bringup.first_us",
+    ),
+    ("cpus = 17\ncpu = [{}]", "refused 3 cpus", "refused 3 cpu"),
 ];
 
 #[test]
 fn refusals_name_their_place(rt: HostRuntime) -> Result<(), Fail> {
-    let head =
-        "version = 1\nstep = 10\nnominal_khz = 1000000\nreference.khz = 1000000\nstable = false\n";
-    for (rest, want) in REFUSALS {
-        let status = refused_parts(rt.alloc(), head, rest)?;
-        assert_eq!(rt; status.to_string(rt.alloc())?.as_str(), want);
+    for (rest, first, second) in REFUSALS {
+        for (version, want) in [("1", first), ("2", second)] {
+            let line = line_of(rt.alloc(), version, "stable = false\n", rest)?;
+            assert_eq!(rt; line.as_str(), want, "at {rest}");
+        }
     }
     Ok(())
 }
@@ -385,7 +455,7 @@ fn what_is_no_toml_or_too_long_is_refused(rt: HostRuntime) -> Result<(), Fail> {
 
 #[test]
 fn a_fault_of_the_source_writes_nothing(rt: HostRuntime) -> Result<(), Fail> {
-    let text = file(rt.alloc(), "10", "1000000", "\"local\"")?;
+    let text = file(rt.alloc(), "1", "10", "1000000", "\"local\"")?;
     let fails = List::from_vec(vec![in rt.alloc(); 2u64]?);
     let mut source = MemSource::new(bytes_of(rt.alloc(), text.as_str())?, 64, fails);
     let mut sink = SureSink::new(List::with_room(rt.alloc(), 1000)?);
@@ -405,7 +475,7 @@ fn a_fault_of_the_source_writes_nothing(rt: HostRuntime) -> Result<(), Fail> {
 
 #[test]
 fn a_fault_of_the_sink_leaves_a_beginning(rt: HostRuntime) -> Result<(), Fail> {
-    let text = file(rt.alloc(), "10", "1000000", "\"local\"")?;
+    let text = file(rt.alloc(), "1", "10", "1000000", "\"local\"")?;
     let fails = List::from_vec(vec![in rt.alloc(); 2u64]?);
     let mut source = SureSource::new(bytes_of(rt.alloc(), text.as_str())?);
     let mut sink = MemSink::new(List::with_room(rt.alloc(), 1000)?, 16, fails);

@@ -1,3 +1,4 @@
+//! A whole run: the boot, the script of CPU 0, and the trace of what the tables answered.
 ghost use Rattle.std.specs.Prelude.{◌≡◌, ◌*◌, ◌≤◌, true, [], length, IfOk};
 ghost use Rattle.clk_trace.specs.LawfulTrace.{IsLawful};
 ghost use Rattle.clk_words.specs.Held.{place_of};

@@ -1,3 +1,4 @@
+//! What the thread of a CPU uses beside its own seats.
 ghost use Rattle.std.specs.Prelude.{◌≡◌, pos};
 
 use crate::boot::Seats;

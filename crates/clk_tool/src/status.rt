@@ -1,3 +1,4 @@
+//! The answers of the program, with their exit statuses and texts.
 ghost use Rattle.std.specs.Prelude.{◌≡◌};
 ghost use Rattle.clk_tool.specs.Answers.{exit_code_of};
 
@@ -37,7 +38,7 @@ pub enum Refusal {
     Word(Place),
     /// There is no such CPU.
     Cpu(Place),
-    /// The run needs so many tickets, more than 2^24.
+    /// The run needs so many tickets, more than 2^24, or in version 2 more than 2^26.
     Tickets { needed: u64 },
     /// It has a form that is not built yet.
     Unbuilt,

@@ -1,3 +1,4 @@
+//! The thread of CPU 0: it makes a script word by word, and keeps its events and steps.
 ghost use Rattle.std.specs.Prelude.{◌≡◌, true, ◌+◌, ◌^◌, ◌<◌, ◌≤◌, pos, length};
 ghost use Rattle.clk_machine.specs.Limits.{IsInRange};
 ghost use Rattle.clk_machine.specs.Tickets.{tickets_of};

@@ -1,3 +1,4 @@
+//! The top call: from the words of a command line to an answer.
 ghost use Rattle.std.specs.Prelude.{◌≡◌, ◌↔◌, ◌⊎◌, ◌≤◌, true, None, IfOk, IfErr};
 ghost use Rattle.clk_base.specs.Causes.{Rose, Grew, GrewByPrefix};
 ghost use Rattle.clk_tool.specs.Built.{is_built};

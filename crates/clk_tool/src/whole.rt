@@ -1,3 +1,4 @@
+//! A source that is read to its end.
 ghost use Rattle.std.specs.Prelude.{◌≡◌, ◌<◌, ◌≤◌, length, IfOk, IfErr};
 ghost use Rattle.clk_base.specs.Causes.{Rose};
 ghost use Rattle.clk_tool.specs.Whole.{Came, CameSome, CameMore, TookMore};

@@ -24,7 +24,7 @@ IsRightKind m cpu records (Stamp gtod_ticket gtod raw) = (gtod ≡ gtod_at m gto
 IsRightKind m cpu records (Update p) = Unit {0}
 IsRightKind m cpu records (Pause ticket count) = Unit {0}
 
--- a stamp of the boot is CPU 0's, before any update
+-- a stamp of the boot is CPU 0's, before any update: its raw clock counts from record 0, and so from the machine's base
 abbrev pub IsRightStamp : Plan → StableStamp → Type 0
 IsRightStamp m s = (s.gtod ≡ gtod_at m s.gtod_ticket) × IsRightRaw m 0 (record_zero m ∷ []) s.raw
 

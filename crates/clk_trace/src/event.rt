@@ -1,3 +1,4 @@
+//! The events of a thread: what it did at each place of its script.
 use clk_machine::{Published, RawReading};
 
 /// What a thread did at one place of its script. Times are in ns.

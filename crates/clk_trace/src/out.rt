@@ -1,3 +1,4 @@
+//! The way of a text to a sink, line by line through a buffer.
 ghost use Rattle.std.specs.Prelude.{◌≡◌, ◌+◌, ◌<◌, ◌≤◌, [], ◌∷◌, ◌++◌, true, false, length, map, OnOk, OnErr};
 ghost use Rattle.clk_base.specs.Causes.{Grew, GrewByPrefix, HasCause};
 ghost use Rattle.clk_base.specs.Text.{line};

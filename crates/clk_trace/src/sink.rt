@@ -1,3 +1,4 @@
+//! Where a text goes.
 ghost use Rattle.std.specs.Prelude.{List, ℕ, Option};
 ghost use Rattle.clk_base.specs.Causes.{HasCause, Wrote};
 

@@ -1,3 +1,4 @@
+//! A whole trace as text, the greatest and least clock values, and a sink that fails.
 ghost use Rattle.std.specs.Prelude.{◌≡◌, [], ◌∷◌, length, IfOk};
 
 use crate::event::{Event, EventKind};
@@ -184,14 +185,14 @@ fn a_fault_leaves_a_beginning(rt: HostRuntime) -> Result<(), Fail> {
 }
 
 #[test]
-fn numbers_below_zero_have_their_sign(rt: HostRuntime) -> Result<(), Fail> {
+fn clock_values_reach_both_ends(rt: HostRuntime) -> Result<(), Fail> {
     let trace = Trace {
         epoch_ticket: 0,
         epoch_cyc: 7,
         boots: List::with_room(rt.alloc(), 0)?,
         starts: Mode::Stable,
-        sched_offset: -5,
-        gtod_offset: 0,
+        sched_offset: i64::MIN,
+        gtod_offset: i64::MAX,
         start_word: 0,
         cpu_of: List::with_room(rt.alloc(), 0)?,
         threads: List::with_room(rt.alloc(), 0)?,
@@ -202,7 +203,7 @@ fn numbers_below_zero_have_their_sign(rt: HostRuntime) -> Result<(), Fail> {
     assert_eq!(rt; write_trace(&mut sink, &trace), Ok(()));
     assert_eq!(rt;
         sink.bytes.as_slice(),
-        "trace 1\nepoch 0 7\nstart stable -5 0\nend 1\n".as_bytes()
+        "trace 1\nepoch 0 7\nstart stable -9223372036854775808 9223372036854775807\nend 1\n".as_bytes()
     );
     Ok(())
 }

@@ -1,10 +1,11 @@
+//! A whole run: the boot, the events of each thread, and the history of each clock word.
 use crate::event::Event;
 use clk_machine::RawReading;
 use clk_num::List;
 use clk_words::Mode;
 
-/// A stamp of the boot: the ticket and value of monotonic time in ns, the raw reading after it, and the offset that
-/// takes monotonic time to the scheduler clock.
+/// A stamp of the boot: the ticket and value of monotonic time in ns, 0 to 2^42, the raw reading after it, and the offset
+/// in ns that takes monotonic time to the scheduler clock.
 #[derive(Clone, Copy, PartialEq, Eq, Debug)]
 pub struct StableStamp {
     pub gtod_ticket: u64,
@@ -24,8 +25,8 @@ pub struct HistoryStep {
     pub new: i64,
 }
 
-/// A whole run. Tickets are counted from 0, times are in ns. Clock values wrap at 64 bits: the sign of a difference tells
-/// which of two is later.
+/// A whole run. Tickets are counted from 0, times are in ns. Clock values begin at the machine's base and wrap at 64 bits:
+/// the sign of a difference tells which of two is later.
 #[derive(Drop)]
 pub struct Trace {
     /// The ticket and the counter value, in cycles, of record 0.
@@ -35,8 +36,9 @@ pub struct Trace {
     pub boots: List<StableStamp>,
     /// How the clock starts.
     pub starts: Mode,
-    /// What takes a raw reading to the stable clock, and monotonic time to the scheduler clock.
+    /// What takes a raw reading to the stable clock: `__sched_clock_offset` of Linux 6.1's `kernel/sched/clock.c`.
     pub sched_offset: i64,
+    /// What takes monotonic time to the scheduler clock: `__gtod_offset` there.
     pub gtod_offset: i64,
     /// Where every clock word opens.
     pub start_word: i64,
@@ -46,6 +48,6 @@ pub struct Trace {
     pub threads: List<List<Event>>,
     /// The history of each CPU's clock word.
     pub histories: List<List<HistoryStep>>,
-    /// How many tickets were drawn.
+    /// How many tickets were drawn, at most 2^26.
     pub tickets: u64,
 }

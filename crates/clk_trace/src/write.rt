@@ -1,3 +1,4 @@
+//! The text of a trace, written line by line.
 ghost use Rattle.std.specs.Prelude.{◌≡◌, ◌++◌, ◌∷◌, [], length, codes, decimal, OnOk, OnErr};
 ghost use Rattle.std.specs.Fmt.{signed_decimal};
 ghost use Rattle.clk_base.specs.Causes.{Grew, GrewByPrefix, HasCause};

@@ -1,12 +1,11 @@
 -- What a joined pair has made: both sides ended, and the tickets are those of its readings.
-use Rattle.std.proofs.Common.{◌≡◌, ℕ, ◌+◌, ◌-◌, ◌<◌, ◌≤◌, Bool, true, false, cond, ◌||◌, List, [], ◌∷◌, ◌++◌, map, length, Option, Some, None, ℤ, append_assoc, append-nil, refl, sym, ap, ap₂, ◌∙◌, subst, arith}
+use Rattle.std.proofs.Common.{◌≡◌, ℕ, ◌+◌, ◌-◌, Bool, true, false, cond, ◌||◌, List, [], ◌∷◌, ◌++◌, map, Option, Some, None, ℤ, append_assoc, append-nil, refl, sym, ap, ap₂, ◌∙◌, subst, arith}
 use Rattle.std.specs.Prelude.{option_map, is_some}
 use Rattle.std.proofs.lemmas.List.Sums.{sum_by_push}
 use Rattle.clk_base.specs.declared.block.Block.{Block}
 use Rattle.std.specs.List.{All, list_any}
 use mathlib.Core.List.{IsPrefix}
-use Rattle.clk_base.specs.Blocks.{Rises}
-use Rattle.clk_ticket.specs.Time.{Time, Draws, after_draw, share_of, without}
+use Rattle.clk_ticket.specs.Time.{Time, Draws, after_draw, without}
 use Rattle.clk_machine.specs.Plan.{Plan}
 use Rattle.clk_machine.specs.Time.{counter_at}
 use Rattle.clk_warp.specs.declared.side.Side.{Side}
@@ -17,7 +16,7 @@ use Rattle.clk_warp.specs.declared.section.Section.TheVariants.{Read, SourceArri
 use Rattle.clk_warp.specs.Sides.{is_same}
 use Rattle.clk_warp.specs.Falls.{Limits, each_after, ended_sides, is_last, is_ended}
 use Rattle.clk_warp.specs.declared.side.WarpRun.{WarpRun}
-use Rattle.clk_warp.specs.Run.{Run, limits_in, limits_at, side_ended, cpu_of, adjust_of, ShowsCounter, new_run, change, IsSection, IsReading}
+use Rattle.clk_warp.specs.Run.{Run, limits_in, limits_at, side_ended, cpu_of, adjust_of, ShowsCounter, new_run, change, IsReading}
 use Rattle.clk_warp.specs.Warps.{IsWarpRun}
 use Rattle.clk_warp.specs.Sections.{after, AreSections}
 use Rattle.clk_warp.specs.Turns.{Lock, Turn, Closes}

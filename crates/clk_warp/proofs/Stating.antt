@@ -1,5 +1,5 @@
 -- The state keeps its promises over one more reading.
-use Rattle.std.proofs.Common.{◌≡◌, ℕ, ◌+◌, ◌*◌, ◌^◌, ◌<◌, ◌≤◌, Bool, true, false, not, ◌&&◌, List, [], ◌∷◌, ◌++◌, length, Option, Some, None, IfSome, inr, append_assoc, append-nil, refl, sym, ap, ◌∙◌, subst, mul-le-mul, arith}
+use Rattle.std.proofs.Common.{◌≡◌, ℕ, ◌+◌, ◌*◌, ◌^◌, ◌<◌, ◌≤◌, Bool, true, false, not, ◌&&◌, List, [], ◌∷◌, ◌++◌, length, ℤ, if◌then◌else◌, Option, Some, None, IfSome, inr, append_assoc, append-nil, refl, sym, ap, ◌∙◌, subst, mul-le-mul, arith}
 use Rattle.std.specs.Prelude.{option_map, is_some, IsSomeAnd}
 use Rattle.std.proofs.lemmas.List.{length_push}
 use Rattle.std.proofs.lemmas.List.Elements.{All-push}
@@ -7,6 +7,7 @@ use Rattle.clk_ticket.specs.Time.{Time, Draws, after_draw}
 use Rattle.clk_machine.specs.Plan.{Plan, count_of}
 use Rattle.clk_machine.specs.Limits.{IsBringUp, IfThere, IsWithinLimits}
 use Rattle.clk_machine.specs.Time.{counter_at}
+use Rattle.clk_machine.specs.Timeouts.{is_first_of_socket}
 use Rattle.clk_machine.specs.declared.parts.BringUpPart.{BringUpPart}
 use Rattle.clk_warp.specs.declared.side.Side.{Side}
 use Rattle.clk_warp.specs.declared.side.Side.TheVariants.{Source, Target}
@@ -24,13 +25,17 @@ use Rattle.clk_warp.specs.Stated.{IsKept}
 
 -- ---- the span is small
 
-timeout_few : (b : Option BringUpPart) → IfThere IsBringUp b → timeout_in b ≤ 1000000
-timeout_few None h = omega arith
-timeout_few (Some part) h = h.timeout.2
+chosen_few : (own : Bool) (a b : ℤ) → count_of a ≤ 1000000 → count_of b ≤ 1000000 → count_of (if own then a else b) ≤ 1000000
+chosen_few true a b ha hb = ha
+chosen_few false a b ha hb = hb
+
+timeout_few : (m : Plan) (b : Option BringUpPart) (cpu : ℕ) → IfThere IsBringUp b → timeout_in m b cpu ≤ 1000000
+timeout_few m None cpu h = omega arith
+timeout_few m (Some part) cpu h = chosen_few (is_first_of_socket m cpu) part.first_us part.timeout_us h.first.2 h.timeout.2
 
 pub span_few : (m : Plan) (cpu : ℕ) → IsWithinLimits m → (limits_in m cpu).span ≤ 4000000000
 span_few m cpu limits =
-    let most : count_of m.nominal_khz * timeout_in m.bringup ≤ 4000000 * 1000000 = mul-le-mul limits.ranges.nominal.2 (timeout_few m.bringup limits.ranges.bringup) in
+    let most : count_of m.nominal_khz * timeout_in m m.bringup cpu ≤ 4000000 * 1000000 = mul-le-mul limits.ranges.nominal.2 (timeout_few m m.bringup cpu limits.ranges.bringup) in
     omega arith
 
 -- ---- fewer readings than room and tickets
@@ -108,7 +113,7 @@ drawn_time None k h = absurd h
 drawn_time (Some t) k h = record { time = t; has = refl; draws = h }
 
 -- a counter is far from the end of its type
-pub far_from_end : (n m : ℕ) → n ≡ m → m ≤ 73 * 2 ^ 42 → n < 2 ^ 50
+pub far_from_end : (n m : ℕ) → n ≡ m → m ≤ 147 * 2 ^ 41 → n < 2 ^ 50
 far_from_end n m e most = omega arith
 
 -- a reading of the state as it was opened is one of the state as it was handed in

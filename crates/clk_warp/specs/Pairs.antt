@@ -3,7 +3,7 @@ use Rattle.std.specs.Prelude.{◌≡◌, ℕ, ◌+◌, true, ℤ, List, [], ◌�
 use Rattle.std.specs.List.{All}
 use Rattle.clk_base.specs.declared.block.Block.{Block}
 use Rattle.clk_base.specs.Blocks.{Rises}
-use Rattle.clk_ticket.specs.Time.{Time, Draws, after_draw, share_of}
+use Rattle.clk_ticket.specs.Time.{Time, after_draw, share_of}
 use Rattle.clk_machine.specs.Plan.{Plan}
 use Rattle.clk_machine.specs.Time.{counter_at}
 use Rattle.clk_warp.specs.declared.side.Side.TheVariants.{Source, Target}

@@ -5,6 +5,7 @@ use Rattle.clk_num.specs.Range.{IsNear}
 use Rattle.clk_ticket.specs.Time.{Time, Draws, after_draw}
 use Rattle.clk_machine.specs.Plan.{Plan, count_of}
 use Rattle.clk_machine.specs.Time.{counter_at}
+use Rattle.clk_machine.specs.Timeouts.{timeout_of}
 use Rattle.clk_machine.specs.declared.parts.BringUpPart.{BringUpPart}
 use Rattle.clk_warp.specs.declared.side.Side.{Side}
 use Rattle.clk_warp.specs.declared.side.Side.TheVariants.{Source, Target}
@@ -28,20 +29,17 @@ pub record Run : Type 0 where
 
 -- ---- limits
 
--- the timeout of a loop in us, by its target
-abbrev pub timeout_in : Option BringUpPart → ℕ
-timeout_in None = 0
-timeout_in (Some part) = count_of part.timeout_us
-
-abbrev pub timeout_of : Plan → ℕ → ℕ
-timeout_of m cpu = timeout_in m.bringup
+-- the timeout of both sides' loops in us: the target's
+abbrev pub timeout_in : Plan → Option BringUpPart → ℕ → ℕ
+timeout_in m None cpu = 0
+timeout_in m (Some part) cpu = timeout_of m part cpu
 
 abbrev pub turns_in : Option BringUpPart → ℕ
 turns_in None = 0
 turns_in (Some part) = count_of part.turns
 
 abbrev pub limits_in : Plan → ℕ → Limits
-limits_in m cpu = record { span = count_of m.nominal_khz * timeout_of m cpu / 1000; turns = turns_in m.bringup }
+limits_in m cpu = record { span = count_of m.nominal_khz * timeout_in m m.bringup cpu / 1000; turns = turns_in m.bringup }
 
 abbrev pub limits_at : Run → Limits
 limits_at s = limits_in s.machine s.cpu

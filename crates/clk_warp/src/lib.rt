@@ -25,6 +25,8 @@ mod laws;
 mod lock;
 mod outcome;
 mod pair;
+#[cfg(test)]
+mod pair_tests;
 mod progress;
 mod seat;
 mod section;

@@ -4,12 +4,12 @@ ghost use Rattle.std.specs.List.{All};
 ghost use Rattle.clk_num.specs.Range.{IsNear};
 ghost use Rattle.clk_ticket.specs.Time.{Draws, after_draw};
 ghost use Rattle.clk_machine.specs.Plan.{cpu_count};
-ghost use Rattle.clk_machine.specs.Limits.{IsBringUp, IsWithinLimits};
+ghost use Rattle.clk_machine.specs.Limits.{most_tickets, IsBringUp, IsWithinLimits};
 ghost use Rattle.clk_machine.specs.Time.{counter_at};
 ghost use Rattle.clk_warp.specs.Sides.{of_side};
 ghost use Rattle.clk_warp.specs.declared.side.Side.TheVariants.{Source, Target};
 ghost use Rattle.clk_warp.specs.declared.section.Section.TheVariants.{Read, Pass};
-ghost use Rattle.clk_warp.specs.Run.{timeout_of as timeout_us, turns_in, limits_in, limits_at, most_readings, cpu_of, adjust_of, is_here, both_here as are_here, side_ended, change, IsReading, ShowsCounter, IsStartOf, arrival, new_run, apart_run};
+ghost use Rattle.clk_warp.specs.Run.{turns_in, limits_in, limits_at, most_readings, cpu_of, adjust_of, is_here, both_here as are_here, side_ended, change, IsReading, ShowsCounter, IsStartOf, arrival, new_run, apart_run};
 ghost use Rattle.clk_warp.specs.Counts.{AreCountsOf};
 ghost use Rattle.clk_warp.specs.Warps.{IsWarpRun};
 
@@ -272,15 +272,6 @@ fn part_of(machine: &Machine) -> BringUpPart
     }
 }
 
-/// The timeout of a warp loop in us, which is its target's, at most 1,000,000.
-fn timeout_of(machine: &Machine, _cpu: u32) -> u64
-    requires { IsSome machine.now.bringup }
-    ensures timeout { result ≡ timeout_us machine.now _cpu }
-    ensures small { result ≤ 1000000 }
-{
-    part_of(machine).timeout_us as u64
-}
-
 /// The turns after which a side ends when it looks next, at most 4,096.
 fn turns_of(machine: &Machine) -> u32
     requires { IsSome machine.now.bringup }
@@ -306,7 +297,7 @@ fn draw_one(tickets: &TicketTable, time: &mut Option<TimeSeat>) -> u64
 fn cycles_at(machine: &Machine, cpu: u32, adjust: i64, ticket: u64) -> u64
     requires cpu { cpu < cpu_count machine.now }
     requires adjust { IsNear 48 adjust }
-    requires ticket { ticket < 2 ^ 24 }
+    requires ticket { ticket < most_tickets }
     ensures value { result ≡ counter_at machine.now cpu adjust ticket }
     ensures small { result < 2 ^ 50 }
     ensures limits { IsWithinLimits machine.now }
@@ -319,7 +310,7 @@ fn cycles_at(machine: &Machine, cpu: u32, adjust: i64, ticket: u64) -> u64
 fn cycles_of(machine: &Machine, side: Side, cpu: u32, adjust: i64, ticket: u64) -> u64
     requires cpu { cpu < cpu_count machine.now }
     requires adjust { IsNear 48 adjust }
-    requires ticket { ticket < 2 ^ 24 }
+    requires ticket { ticket < most_tickets }
     ensures value { result ≡ counter_at machine.now (cpu_of side cpu) (adjust_of side adjust) ticket }
     ensures small { result < 2 ^ 50 }
     ensures limits { IsWithinLimits machine.now }
@@ -330,12 +321,13 @@ fn cycles_of(machine: &Machine, side: Side, cpu: u32, adjust: i64, ticket: u64) 
     }
 }
 
-/// The counters of a run before its first reading.
+/// The counters of a run of CPU `cpu` before its first reading. Both sides have the timeout of the target.
 fn no_counts(machine: &Machine, cpu: u32) -> WarpCounts
-    requires { IsSome machine.now.bringup }
+    requires bring_up { IsSome machine.now.bringup }
+    requires cpu { (1 ≤ cpu) × (cpu < cpu_count machine.now) }
     ensures { AreCountsOf (limits_in machine.now cpu) [] result }
 {
-    let span = u64::from(machine.nominal_khz()) * timeout_of(machine, cpu) / US_PER_MS;
+    let span = u64::from(machine.nominal_khz()) * machine.timeout(cpu) / US_PER_MS;
     WarpCounts::new(span, turns_of(machine))
 }
 

@@ -4,6 +4,7 @@ use Rattle.std.proofs.lemmas.List.{append-nil, map-append}
 use Rattle.std.proofs.lemmas.List.Elements.{All-nil, All-append}
 use Rattle.clk_base.specs.declared.block.Block.{Block}
 use Rattle.clk_ticket.specs.Time.{Time}
+use Rattle.clk_machine.specs.Limits.{most_tickets}
 use Rattle.clk_watch.specs.Draws.{single, DrawsEach}
 
 pub no_draws : (t : Time) → DrawsEach [] t t
@@ -23,5 +24,5 @@ then_draws xs ys t u v p q = record {
   blocks = q.blocks ∙ ap (λ bs. bs ++ map single ys) p.blocks ∙ append_assoc t.blocks (map single xs) (map single ys) ∙ ap (λ bs. t.blocks ++ bs) (sym (map-append single xs ys));
   share = q.share ∙ p.share;
   rises = λ h. q.rises (p.rises h);
-  below = All-append (λ ticket. ticket < 2 ^ 24) xs ys p.below q.below;
+  below = All-append (λ ticket. ticket < most_tickets) xs ys p.below q.below;
 }

@@ -1,5 +1,4 @@
--- How great masked differences, conversions and counters of sources are. These laws hold of any machine, and of any two
--- readings: they belong beside the ones on the CPUs' own counters.
+-- How great masked differences, conversions and counters of sources are.
 use Rattle.std.proofs.Common.{◌≡◌, ℕ, ◌+◌, ◌-◌, ◌*◌, ◌/◌, ◌^◌, ◌<◌, ◌≤◌, ℤ, pos, negsuc, ◌+ℤ◌, ◌≤ℤ◌, length, ⊎_elim, sym, ap, ◌∙◌, arith}
 use Rattle.std.specs.Prelude.{nat_lt, if◌then◌else◌}
 use Rattle.std.proofs.Math.Nat.{mul-le-mul_left, mul-le-mul_right, le_of_mul-le-mul_right, mod-lt, mod-le}
@@ -15,7 +14,7 @@ use Rattle.clk_num.specs.Range.{IsNear}
 use Rattle.clk_num.proofs.TrueTime.{convert_bounded}
 use Rattle.clk_num.proofs.Rating.{few_cycles}
 use Rattle.clk_machine.specs.Plan.{Plan, count_of, cpu_count}
-use Rattle.clk_machine.specs.Limits.{IsRateInKhz, IsWithinLimits}
+use Rattle.clk_machine.specs.Limits.{most_tickets, IsRateInKhz, IsWithinLimits}
 use Rattle.clk_machine.specs.Time.{time_at, count_at, source_plan_at, source_at, reference_at, rate_of, reference_rate}
 use Rattle.clk_machine.proofs.Bounds.{time_below, cycles_few}
 use Rattle.clk_machine.proofs.Halving.{jumped_near}
@@ -97,7 +96,7 @@ pub source_small : (m : Plan) (s now last bits cycles : ℕ) (rate : Rate) → I
     → cycles ≡ masked_delta now last bits → rate ≡ rate_of m s → convert cycles rate < 2 ^ 60
 source_small m s now last bits cycles rate l there width a b delta same =
     let source = l.ranges.source s (source_plan_at m s) there in
-    let few = delta_few bits now last (73 * 2 ^ 42) width a b (omega arith) in
+    let few = delta_few bits now last (147 * 2 ^ 41) width a b (omega arith) in
     let ns = ns_few (source_plan_at m s).nominal_khz (count_of (source_plan_at m s).bits) cycles (source_in m s l there) in
     let is : convert cycles rate ≡ convert cycles (rate_of m s) = ap (convert cycles) same in
     omega (arith, few, ns, is, delta)
@@ -108,7 +107,7 @@ source_small m s now last bits cycles rate l there width a b delta same =
 pub watchdog_small : (m : Plan) (now last bits cycles : ℕ) (rate : Rate) → IsWithinLimits m → bits ≤ 64 → IsSmall now → IsSmall last
     → cycles ≡ masked_delta now last bits → rate ≡ reference_rate m → convert cycles rate < 2 ^ 60
 watchdog_small m now last bits cycles rate l width a b delta same =
-    let few = delta_few bits now last (73 * 2 ^ 42) width a b (omega arith) in
+    let few = delta_few bits now last (147 * 2 ^ 41) width a b (omega arith) in
     let ns = ns_few m.reference.khz (count_of m.reference.bits) cycles l.ranges.reference.khz in
     let is : convert cycles rate ≡ convert cycles (reference_rate m) = ap (convert cycles) same in
     omega (arith, few, ns, is, delta)
@@ -120,7 +119,7 @@ count_at_most (pos z) n h = omega (arith, ints)
 count_at_most (negsuc z) n h = omega (arith, ints)
 
 -- a source that is not the CPUs' own began at 0
-pub other_small : (m : Plan) (s k : ℕ) → IsWithinLimits m → s < length m.source → k < 2 ^ 24 → source_at m s k ≤ 5 * 2 ^ 42
+pub other_small : (m : Plan) (s k : ℕ) → IsWithinLimits m → s < length m.source → k < most_tickets → source_at m s k ≤ 11 * 2 ^ 41
 other_small m s k l there ticket =
     let source = l.ranges.source s _ there in
     let p = source_plan_at m s in
@@ -128,6 +127,6 @@ other_small m s k l there ticket =
     let cycles = cycles_few (source_plan_at m s).khz (time_at m k) source.khz in
     let time = time_below m k l.ranges ticket in
     let high = near.1 in
-    let counted = count_at_most (count_at (pos 0) (source_plan_at m s).khz (source_plan_at m s).jumps (time_at m k)) (5 * 2 ^ 42) (omega (arith, ints, high, cycles, time)) in
+    let counted = count_at_most (count_at (pos 0) (source_plan_at m s).khz (source_plan_at m s).jumps (time_at m k)) (11 * 2 ^ 41) (omega (arith, ints, high, cycles, time)) in
     let shows = mod-le (count_of (count_at (pos 0) (source_plan_at m s).khz (source_plan_at m s).jumps (time_at m k))) (2 ^ count_of (source_plan_at m s).bits) in
     omega (arith, counted, shows)

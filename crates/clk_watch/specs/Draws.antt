@@ -4,6 +4,7 @@ use Rattle.std.specs.List.{All}
 use Rattle.clk_base.specs.declared.block.Block.{Block}
 use Rattle.clk_base.specs.Blocks.{Rises}
 use Rattle.clk_ticket.specs.Time.{Time, share_of}
+use Rattle.clk_machine.specs.Limits.{most_tickets}
 
 -- the block of one ticket
 abbrev pub single : ℕ → Block
@@ -16,4 +17,4 @@ pub record DrawsEach (tickets : List ℕ) (before after : Time) : Type 0 where
   pub blocks : after.blocks ≡ before.blocks ++ map single tickets
   pub share : share_of after ≡ share_of before
   pub rises : Rises before.blocks → Rises after.blocks
-  pub below : All (λ ticket. ticket < 2 ^ 24) tickets
+  pub below : All (λ ticket. ticket < most_tickets) tickets

@@ -9,7 +9,7 @@ use Rattle.clk_watch.specs.declared.watched.Watched.{Watched}
 
 -- a count of cycles that some counter of a machine may show
 abbrev pub IsSmall : ℕ → Type 0
-IsSmall cycles = cycles ≤ 73 * 2 ^ 42
+IsSmall cycles = cycles ≤ 147 * 2 ^ 41
 
 pub record IsSmallPair (p : Pair) : Type 0 where
   pub cs : IsSmall p.cs

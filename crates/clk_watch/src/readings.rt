@@ -3,7 +3,7 @@ ghost use Rattle.std.specs.Prelude.{◌≡◌, ◌^◌, ◌<◌, ◌≤◌, leng
 ghost use Rattle.clk_num.specs.Range.{IsNear};
 ghost use Rattle.clk_ticket.specs.Time.{Draws};
 ghost use Rattle.clk_machine.specs.Plan.{cpu_count};
-ghost use Rattle.clk_machine.specs.Limits.{IsWithinLimits};
+ghost use Rattle.clk_machine.specs.Limits.{most_tickets, IsWithinLimits};
 ghost use Rattle.clk_watch.specs.Draws.{DrawsEach};
 ghost use Rattle.clk_watch.specs.Brackets.{watchdog_at, source_reading, IsRightAttempt};
 ghost use Rattle.clk_watch.specs.Small.{IsSmall, IsSmallAttempt};
@@ -92,7 +92,7 @@ fn source_cycles(s: u32, counter: CpuCounter<'_>, ticket: u64) -> u64
     requires source { s < length counter.machine.now.source }
     requires cpu { counter.cpu < cpu_count counter.machine.now }
     requires adjust { IsNear 48 counter.adjust }
-    requires ticket { ticket < 2 ^ 24 }
+    requires ticket { ticket < most_tickets }
     ensures cycles { result
         ≡ source_reading counter.entry.machine.now counter.entry.cpu counter.entry.adjust s ticket }
     ensures small { IsSmall result }

@@ -71,10 +71,13 @@ fn parts(
     let cpu = CpuPart {
         khz,
         offset: 0,
+        socket: 0,
         jumps: none(alloc)?,
         script,
     };
     Ok(Parts {
+        version: 1,
+        base: 0,
         cpus: 1,
         step,
         tick: 1_000_000,

@@ -1,5 +1,5 @@
 -- From what a step tells to what a call says, over plain data.
-use Rattle.std.proofs.Common.{refl, ◌≡◌, ◌≢◌, ℕ, ◌+◌, ◌^◌, ◌<◌, ℤ, pos, ◌+ℤ◌, List, [], ◌∷◌, ◌++◌, sym, ap, ◌∙◌, subst, arith, eq-eqb, ne_eqb, true, false}
+use Rattle.std.proofs.Common.{refl, ◌≡◌, ◌≢◌, ℕ, ◌+◌, ◌*◌, ◌^◌, ◌<◌, ℤ, pos, ◌+ℤ◌, List, [], ◌∷◌, ◌++◌, sym, ap, ◌∙◌, subst, arith, eq-eqb, ne_eqb, true, false}
 use Rattle.std.specs.Int.{int_min, int_max}
 use Rattle.std.proofs.lemmas.Int.{ints, clamps}
 use Rattle.std.proofs.lemmas.List.Elements.{All-push, All-weaker, All-contains}
@@ -14,13 +14,14 @@ use Rattle.clk_num.specs.Clamp.{local_target, elapsed}
 use Rattle.clk_num.specs.Wrapping.{IsValue, wrap, above, raise, bits_of, IsBitsOf}
 use Rattle.clk_num.proofs.Wraps.{wrapped}
 use Rattle.clk_num.proofs.Heights.{wrap_fits, wrap_again, same_above, above_is, bits_are, bits_keep}
-use Rattle.clk_words.specs.declared.opening.Opening.{Opening}
 use Rattle.clk_words.specs.declared.opening.Start.{Start}
 use Rattle.clk_words.specs.declared.step.Step.{Step}
 use Rattle.clk_words.specs.declared.step.Why.{Why}
 use Rattle.clk_words.specs.declared.step.Why.TheVariants.{Raise, Couple, Lift}
 use Rattle.clk_words.specs.declared.view.View.{View}
 use Rattle.clk_words.specs.declared.view.Load.{Load}
+use Rattle.clk_words.specs.declared.view.ModeView.{ModeView}
+use Rattle.clk_words.specs.declared.view.PairView.{PairView}
 use Rattle.clk_words.specs.declared.view.Name.{Name}
 use Rattle.clk_words.specs.declared.view.Name.TheVariants.{Clock, Gtod, Raw, Offset}
 use Rattle.clk_words.specs.declared.kind.SeatKind.{SeatKind}
@@ -28,10 +29,11 @@ use Rattle.clk_words.specs.Kinds.{cpu_of}
 use Rattle.clk_words.specs.Targets.{target}
 use Rattle.clk_words.specs.Histories.{opens_at, value_after, HadValue, NamesHeld, is_lift}
 use Rattle.clk_words.specs.Heights.{IsClockWord}
-use Rattle.clk_words.specs.Bounds.{opens_of, IsGtod, IsOffset, IsClock, IsTick, IsOpening}
+use Rattle.clk_words.specs.Bounds.{IsGtod, IsOffset, IsLiftValue, IsClock, IsTick}
 use Rattle.clk_words.specs.Parts.{gtod_of, raw_of}
+use Rattle.clk_words.specs.Rights.{has_number}
 use Rattle.clk_words.specs.Knowing.{IsSoundAs, AreSound, HasLoaded, IsTrusted}
-use Rattle.clk_words.specs.Told.{Looks, Makes, Raises, Loads, Finds, FindsGtod, FindsRaw, stamped, LoadedClock, Missed, Hit, Exchanged, Raised, LoadedGtod, LoadedRaw}
+use Rattle.clk_words.specs.Told.{Looks, Makes, Raises, Loads, Finds, FindsGtod, FindsRaw, FindsOffset, Lifts, stamped, LoadedClock, Missed, Hit, Exchanged, Raised, LoadedGtod, LoadedRaw, LoadedOffset, offset_put, pair_cloned, Lifted}
 use Rattle.clk_words.specs.Held.{Place, Held, place_of}
 use Rattle.clk_words.specs.Seated.{IsSeated, AreWords}
 use Rattle.clk_words.specs.Calls.{Loses, step_of}
@@ -142,6 +144,49 @@ module _ (number : ℕ) (kind : SeatKind) (made : ℕ) (taken later : List (ℕ 
     sound = seated.sound;
   })
 
+-- a look, a load of the offset, and the watchdog's steps
+module _ (number : ℕ) (kind : SeatKind) (made : ℕ) (taken later : List (ℕ × Step)) (v w : View) where
+  -- what changes in the modes and the pairs alone, but not in the rights
+  pub sits_modes : IsSeated number kind made taken v → later ≡ taken → (m : ModeView) (p : PairView) → w ≡ record v { modes = m; pairs = p }
+      → m.watch ≡ v.modes.watch → p.owns ≡ v.pairs.owns → IsSeated number kind made later w
+  sits_modes seated same m p is watch owns = subst (IsSeated number kind made later) (sym is) (record {
+    empty = same ∙ seated.empty;
+    live = seated.live;
+    number_is = seated.number_is;
+    kind_is = seated.kind_is;
+    made_is = seated.made_is;
+    within = seated.within;
+    owned = λ c h. ap (λ ns. has_number ns c) owns ∙ seated.owned c h;
+    watched = λ h. watch ∙ seated.watched h;
+    sound = seated.sound;
+  })
+
+  pub sits_offset : IsSeated number kind made taken v → later ≡ taken → (x : ℤ) → FindsOffset v x w → IsSeated number kind made later w
+  sits_offset seated same x told = subst (IsSeated number kind made later) (sym told.view_is) (record {
+    empty = same ∙ seated.empty;
+    live = seated.live;
+    number_is = seated.number_is;
+    kind_is = seated.kind_is;
+    made_is = seated.made_is;
+    within = seated.within;
+    owned = seated.owned;
+    watched = seated.watched;
+    sound = loads_push v.start v.seen v.loads Offset x seated.sound told.range;
+  })
+
+  pub sits_lifts : IsSeated number kind made taken v → later ≡ taken → (s : Step) → Lifts v s w → IsSeated number kind made later w
+  sits_lifts seated same s told = subst (IsSeated number kind made later) (sym told.view_is) (record {
+    empty = same ∙ seated.empty;
+    live = seated.live;
+    number_is = seated.number_is;
+    kind_is = seated.kind_is;
+    made_is = seated.made_is;
+    within = seated.within;
+    owned = seated.owned;
+    watched = seated.watched;
+    sound = loads_more v.start v.seen (s ∷ []) v.loads seated.sound;
+  })
+
 -- what a load says, of the caller's view
 same_clock : (start : Start) (x y : ℤ) (n : ℕ) → IsClock (opens_at start) x → IsValue y → IsClockWord start x n → IsClockWord start y n → x ≡ y
 same_clock start x y n range fits p q = same_above (opens_at start) x y range.0 fits (omega (arith, ints))
@@ -162,6 +207,11 @@ says_raw turn m n found v x told e word =
     let same : told.value ≡ x = bits_keep told.value x found told.word_is word in
     subst (λ y. FindsRaw v (cpu_of v.kind) y n.0) same (subst (λ u. FindsRaw u (cpu_of u.kind) told.value n.0) e told.finds)
 
+pub says_offset : (turn : Turn Step) (m n : Me Step View) (found : ℕ) (v : View) (x : ℤ) → LoadedOffset turn m found n → m.0 ≡ v → IsBitsOf x found → FindsOffset v x n.0
+says_offset turn m n found v x told e word =
+    let same : told.value ≡ x = bits_keep told.value x found told.word_is word in
+    subst (λ y. FindsOffset v y n.0) same (subst (λ u. FindsOffset u told.value n.0) e told.finds)
+
 -- a word in range has its value
 pub clock_fits : (start : Start) (x : ℤ) (n : ℕ) → IsClockWord start x n → IsClock (opens_at start) x → n < 2 ^ 63
 clock_fits start x n p q = let low = q.1 in let high = q.2 in omega (arith, ints)
@@ -179,11 +229,7 @@ bits_here x n fits is = subst (IsBitsOf x) (sym is) (bits_are x fits)
 pub loaded_sound : (v : View) (name : Name) (x : ℤ) → AreSound v.start v.seen v.loads → HasLoaded v name x → IsSoundAs v.start v.seen name x
 loaded_sound v name x sound has = All-contains (λ (l : Load). IsSoundAs v.start v.seen l.of l.value) v.loads (record { of = name; value = x }) sound has
 
--- the offset of an opening is in range by itself
-pub offset_range : (o : Opening) → IsOpening o → IsOffset (opens_of o) o.offset
-offset_range o is = let low = is.gtod.0 in let high = is.gtod.1 in (omega (arith, ints, wrapped), omega (arith, ints, wrapped))
-
--- so is the target of a step that names such values, but that it may lie below the opening
+-- the target of a step that names values in range is in range, but that it may lie below the opening
 pub record IsTarget (opens x : ℤ) : Type 0 where
   pub fits : IsValue x
   pub near : IsNear 60 (above x opens)
@@ -198,13 +244,13 @@ target_range opens tick raw tick_raw tick_gtod offset t o g = record {
 clock_target : (opens x : ℤ) → IsClock opens x → IsTarget opens x
 clock_target opens x p = let low = p.1 in let high = p.2 in record { fits = p.0; near = (omega (arith, ints), omega (arith, ints)) }
 
-pub trusted_range : (v : View) (why : Why) → IsTick v.start.tick → IsOpening v.start.opening → AreSound v.start v.seen v.loads → IsTrusted v why
+pub trusted_range : (v : View) (why : Why) → IsTick v.start.tick → AreSound v.start v.seen v.loads → IsTrusted v why
     → IsTarget (opens_at v.start) (target v.start.tick why)
-trusted_range v (Raise raw tick_raw tick_gtod offset) t o sound trusted =
-    target_range (opens_at v.start) v.start.tick raw tick_raw tick_gtod offset t (subst (IsOffset (opens_at v.start)) (sym trusted.3) (offset_range v.start.opening o))
+trusted_range v (Raise raw tick_raw tick_gtod offset) t sound trusted =
+    target_range (opens_at v.start) v.start.tick raw tick_raw tick_gtod offset t (loaded_sound v Offset offset sound trusted.3)
     (loaded_sound v (Gtod (cpu_of v.kind)) tick_gtod sound trusted.2)
-trusted_range v (Couple from value) t o sound trusted = clock_target (opens_at v.start) value (loaded_sound v (Clock from) value sound trusted).1
-trusted_range v (Lift value) t o sound trusted = absurd trusted
+trusted_range v (Couple from value) t sound trusted = clock_target (opens_at v.start) value (loaded_sound v (Clock from) value sound trusted).1
+trusted_range v (Lift value) t sound trusted = absurd trusted
 
 pub trusted_names : (v : View) (why : Why) → AreSound v.start v.seen v.loads → IsTrusted v why → NamesHeld v.start v.seen why
 trusted_names v (Raise raw tick_raw tick_gtod offset) sound trusted = tt
@@ -268,6 +314,15 @@ raw_place own key place word cpu kind self_is e f = let g = ap (λ (p : Place). 
 pub within_table : (own : TableId) (key : Start) (place : Place) (word : ℕ) → record { table = own; start = key } ≡ place → word < place.table.words → word < own.words
 within_table own key place word self_is low = let e = ap (λ (p : Place). p.table.words) self_is in omega arith
 
+-- the places of the mode and of the offset
+pub mode_behind : (own : TableId) (key : Start) (place : Place) (word : ℕ) → record { table = own; start = key } ≡ place
+    → word ≡ 3 * place.start.cpus → word ≡ 3 * key.cpus
+mode_behind own key place word self_is e = let g = ap (λ (p : Place). p.start.cpus) self_is in omega arith
+
+pub offset_behind : (own : TableId) (key : Start) (place : Place) (word : ℕ) → record { table = own; start = key } ≡ place
+    → word ≡ 3 * place.start.cpus + 1 → word ≡ 3 * key.cpus + 1
+offset_behind own key place word self_is e = let g = ap (λ (p : Place). p.start.cpus) self_is in omega arith
+
 -- a seat's CPU is one of the words'
 pub cpu_low : (table own : TableId) (start key : Start) (cpu : ℕ) → Belongs table start own key → cpu < start.cpus → cpu < key.cpus
 cpu_low table own start key cpu b low = let e = ap (λ (s : Start). s.cpus) b.start_is in omega arith
@@ -294,11 +349,40 @@ says_raised call why turn m n found v x told e fits word =
     subst (λ (u : View). Raises u (step_of u call turn.word x (raise x (target u.start.tick why)) why) n.0) e
     (subst (λ y. Raises m.0 (step_of m.0 call turn.word y (raise y (target m.0.start.tick why)) why) n.0) same told.raises)
 
+-- what a lift says, of the caller's view
+pub says_lifted : (call : ℕ) (value : ℤ) (turn : Turn Step) (m n : Me Step View) (found : ℕ) (v : View) (x : ℤ) → Lifted call value turn m found n → m.0 ≡ v
+    → IsValue x → IsClockWord m.0.start x found → Lifts v (step_of v call turn.word x (raise x value) (Lift value)) n.0
+says_lifted call value turn m n found v x told e fits word =
+    let same : told.old ≡ x = same_clock m.0.start told.old x found told.lifts.range fits told.word_is word in
+    subst (λ (u : View). Lifts u (step_of u call turn.word x (raise x value) (Lift value)) n.0) e
+    (subst (λ y. Lifts m.0 (step_of m.0 call turn.word y (raise y value) (Lift value)) n.0) same told.lifts)
+
+-- what may be lifted to is in range
+pub lift_range : (opens value : ℤ) → IsLiftValue opens value → IsTarget opens value
+lift_range opens value is =
+    let g = is.gtod_range in
+    let o = is.offset_range in
+    subst (IsTarget opens) (sym is.value_is) (record {
+      fits = wrap_fits _;
+      near = (omega (arith, ints, wrapped), omega (arith, ints, wrapped));
+    })
+
+-- a store of the watchdog's, of the caller's view
+pub says_put : (m n : Me Step View) (v : View) (value x : ℤ) (word : ℕ) → n ≡ (offset_put value m.0, m.1) → m.0 ≡ v → IsBitsOf value word → IsBitsOf x word → n.0 ≡ offset_put x v
+says_put m n v value x word is e p q =
+    ap (λ (k : Me Step View). k.0) is ∙ ap (λ y. offset_put y m.0) (bits_keep value x word p q) ∙ ap (λ (u : View). offset_put x u) e
+
+pub says_cloned : (m n : Me Step View) (v : View) (place register r : ℕ) (value x : ℤ) (word : ℕ) → n ≡ (pair_cloned register value m.0, m.1) → m.0 ≡ v
+    → place ≡ m.0.start.cpus + register → place ≡ m.0.start.cpus + r → IsBitsOf value word → IsBitsOf x word → n.0 ≡ pair_cloned r x v
+says_cloned m n v place register r value x word is e f g p q =
+    let same : register ≡ r = omega arith in
+    ap (λ (k : Me Step View). k.0) is ∙ ap (λ y. pair_cloned register y m.0) (bits_keep value x word p q) ∙ ap (λ i. pair_cloned i x m.0) same ∙ ap (λ (u : View). pair_cloned r x u) e
+
 -- the value put is in range, since the target is
-put_range : (v : View) (word : ℕ) (old new : ℤ) (why : Why) → IsTick v.start.tick → IsOpening v.start.opening → AreSound v.start v.seen v.loads → HasLoaded v (Clock word) old → IsTrusted v why
+put_range : (v : View) (word : ℕ) (old new : ℤ) (why : Why) → IsTick v.start.tick → AreSound v.start v.seen v.loads → HasLoaded v (Clock word) old → IsTrusted v why
     → new ≡ raise old (target v.start.tick why) → IsClock (opens_at v.start) new
-put_range v word old new why tick opening sound loaded trusted is =
-    let to = trusted_range v why tick opening sound trusted in
+put_range v word old new why tick sound loaded trusted is =
+    let to = trusted_range v why tick sound trusted in
     subst (IsClock (opens_at v.start)) (sym is) (raise_range (opens_at v.start) old (target v.start.tick why) (loaded_sound v (Clock word) old sound loaded).1 to.fits to.near)
 
 trusted_raises : (v : View) (why : Why) → IsTrusted v why → is_lift why ≡ false
@@ -312,17 +396,15 @@ pub record MayAsk (start : Start) (v : View) (word : ℕ) (why : Why) : Type 0 w
   pub trusted : IsTrusted v why
   pub found : v.modes.found ≡ true
   pub tick : IsTick start.tick
-  pub opening : IsOpening start.opening
 
-pub asked : (table own : TableId) (v : View) (key : Start) (held : Held) (place : Place) (word : ℕ) (why : Why) (cpus : ℕ) (tick opens offset : ℤ)
-    → AreWords cpus tick opens offset own key → record { table = table; view = v } ≡ held → record { table = own; start = key } ≡ place
+pub asked : (table own : TableId) (v : View) (key : Start) (held : Held) (place : Place) (word : ℕ) (why : Why) (cpus : ℕ) (tick opens : ℤ)
+    → AreWords cpus tick opens own key → record { table = table; view = v } ≡ held → record { table = own; start = key } ≡ place
     → word < place.start.cpus → IsTrusted held.view why → held.view.modes.found ≡ true → MayAsk key v word why
-asked table own v key held place word why cpus tick opens offset are view_is self_is low trusted found = record {
+asked table own v key held place word why cpus tick opens are view_is self_is low trusted found = record {
   found = ap (λ (h : Held). h.view.modes.found) view_is ∙ found;
   low = word_low own key place word self_is low;
   trusted = subst (λ (h : Held). IsTrusted h.view why) (sym view_is) trusted;
   tick = are.tick_range;
-  opening = are.opening;
 }
 
 -- what it asks to be raised has a target in range, and may be raised
@@ -333,7 +415,7 @@ module _ (start : Start) (v : View) (word : ℕ) (why : Why) (number : ℕ) (kin
 
   pub asked_target : IsTarget (opens_at start) (target start.tick why)
   asked_target = subst (λ (s : Start). IsTarget (opens_at s) (target s.tick why)) same
-      (let here = back in trusted_range v why here.tick here.opening seated.sound here.trusted)
+      (let here = back in trusted_range v why here.tick seated.sound here.trusted)
 
   pub raise_asked : (most : ℕ) → IsClockWord start (target start.tick why) most → MayRaise start v word most why
   raise_asked most is =
@@ -354,7 +436,7 @@ module _ (start : Start) (v : View) (word : ℕ) (why : Why) (number : ℕ) (kin
       let here = back in
       let put : new ≡ raise old (target v.start.tick why) = is ∙ ap (λ (s : Start). raise old (target s.tick why)) (sym same) in
       subst (λ (s : Start). IsClock (opens_at s) old × IsClock (opens_at s) new) same
-      ((loaded_sound v (Clock word) old seated.sound loaded).1, put_range v word old new why here.tick here.opening seated.sound loaded here.trusted put)
+      ((loaded_sound v (Clock word) old seated.sound loaded).1, put_range v word old new why here.tick seated.sound loaded here.trusted put)
 
 -- the target that the code takes is near the opening that it keeps
 pub near_here : (key : Start) (tick opens wanted : ℤ) (why : Why) → tick ≡ key.tick → opens ≡ opens_at key → wanted ≡ target tick why → IsTarget (opens_at key) (target key.tick why)
@@ -374,6 +456,10 @@ near_clock key opens x is range = subst (λ o. IsNear 60 (above x o)) (sym is) (
 pub same_raise : (v : View) (by c call word : ℕ) (y why : Why) (old new tick key wanted : ℤ) → by ≡ v.number → c ≡ call → y ≡ why → tick ≡ key → wanted ≡ target tick why → new ≡ raise old wanted
     → step_of v c word old (raise old (target key y)) y ≡ record { by = by; call = call; word = word; why = why; old = old; new = new }
 same_raise v by c call word y why old new tick key wanted e f g same to is = cc
+
+pub same_lift : (v : View) (by c call word : ℕ) (y value old new : ℤ) → by ≡ v.number → c ≡ call → y ≡ value → new ≡ raise old value
+    → step_of v c word old (raise old y) (Lift y) ≡ record { by = by; call = call; word = word; why = Lift value; old = old; new = new }
+same_lift v by c call word y value old new e f g put = cc
 
 -- the target of a local reading, as the code sums it up
 pub raise_target : (raw tick_raw tick_gtod offset tick gone past sum to : ℤ) (why : Why) → why ≡ Raise raw tick_raw tick_gtod offset → gone ≡ above raw tick_raw → past ≡ int_max gone (pos 0)

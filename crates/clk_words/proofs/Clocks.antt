@@ -272,7 +272,7 @@ own_kept history made id other j k holder front whole owns p q moves all =
     }) owns all
 
 -- the longer of two beginnings, and that both begin it
-longer_case : (xs ys : List Step) → ((longer xs ys ≡ ys) × (length xs < length ys)) ⊎ ((longer xs ys ≡ xs) × (length ys ≤ length xs))
+pub longer_case : (xs ys : List Step) → ((longer xs ys ≡ ys) × (length xs < length ys)) ⊎ ((longer xs ys ≡ xs) × (length ys ≤ length xs))
 longer_case xs ys = at (nat_lt (length xs) (length ys)) refl
   where
     at : (b : Bool) → nat_lt (length xs) (length ys) ≡ b → ((longer xs ys ≡ ys) × (length xs < length ys)) ⊎ ((longer xs ys ≡ xs) × (length ys ≤ length xs))

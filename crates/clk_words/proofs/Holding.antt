@@ -1,10 +1,13 @@
 -- What a word has held is its opening or was put there.
-use Rattle.std.proofs.Common.{◌≡◌, ℕ, ℤ, ◌⊎◌, Bool, cond, List, [], ◌∷◌, ◌++◌, refl, sym, ap, ◌∙◌, subst, inl, inr, ⊎_elim, append_assoc, eq-eqb, ne_eqb}
+use Rattle.std.proofs.Common.{◌≡◌, ℕ, ℤ, ◌⊎◌, Some, None, Bool, cond, List, [], ◌∷◌, ◌++◌, refl, sym, ap, ◌∙◌, subst, inl, inr, ⊎_elim, append_assoc, eq-eqb, ne_eqb}
 use mathlib.Core.Logic.{dite}
 use native.Mathlib.Decide.{ℕ_discrete}
 use Rattle.clk_words.specs.declared.opening.Start.{Start}
 use Rattle.clk_words.specs.declared.step.Step.{Step}
 use Rattle.clk_words.specs.Histories.{opens_at, value_after, HadValue, Follows, IsGlobalHistory}
+use Rattle.clk_words.specs.declared.view.View.{View}
+use Rattle.clk_words.specs.Told.{FindsOffset}
+use Rattle.clk_words.specs.Calls.{KeepsOffset}
 use Rattle.clk_words.specs.Laws.{WasPut}
 use Rattle.clk_words.proofs.Replay.{follow_back}
 
@@ -48,3 +51,9 @@ held_put start history w x h = ⊎_elim
 
 pub each_follows : (start : Start) (front back : List Step) (s : Step) → IsGlobalHistory start (front ++ s ∷ back) → Follows start front s
 each_follows start front back s legal = (follow_back start [] front (s ∷ back) legal).0
+
+-- the offset that was found is found again
+pub offset_stays : (v w u t : View) (x y : ℤ) → FindsOffset v x w → KeepsOffset w u → FindsOffset u y t → y ≡ x
+offset_stays v w u t x y found kept again =
+    let has : w.modes.offset ≡ Some x = ap (λ (o : View). o.modes.offset) found.view_is in
+    again.same x (⊎_elim (λ (e : w.modes.offset ≡ None). absurd (cc)) (λ (e : w.modes.offset ≡ u.modes.offset). sym e ∙ has) kept)

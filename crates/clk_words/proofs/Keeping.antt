@@ -15,6 +15,8 @@ use Rattle.clk_words.specs.declared.step.Step.{Step}
 use Rattle.clk_words.specs.declared.step.Why.{Why}
 use Rattle.clk_words.specs.declared.step.Why.TheVariants.{Raise, Couple, Lift}
 use Rattle.clk_words.specs.declared.view.View.{View}
+use Rattle.clk_words.specs.declared.view.PairView.{PairView}
+use Rattle.clk_words.specs.declared.view.ModeView.{ModeView}
 use Rattle.clk_words.specs.declared.view.Load.{Load}
 use Rattle.clk_words.specs.declared.view.Name.TheVariants.{Clock}
 use Rattle.clk_words.specs.Fronts.{Begins}
@@ -22,7 +24,8 @@ use Rattle.clk_words.specs.Targets.{target}
 use Rattle.clk_words.specs.Histories.{opens_at, value_after, HadValue, NamesHeld, Follows, is_lift, has_lift, AllLifted, IsInOrder}
 use Rattle.clk_words.specs.Heights.{height, IsClockWord}
 use Rattle.clk_words.specs.Bounds.{IsClock}
-use Rattle.clk_words.specs.Kept.{Fits, HistoryPart, Kept}
+use Rattle.clk_words.specs.Parts.{part_of}
+use Rattle.clk_words.specs.Kept.{Fits, HistoryPart, Knows, Kept}
 use Rattle.clk_words.specs.Knowing.{IsGood}
 use Rattle.clk_words.specs.Told.{LoadedClock, Exchanged, Raised}
 use Rattle.clk_words.proofs.Fronts.{begins_self}
@@ -31,12 +34,13 @@ use Rattle.clk_words.proofs.Places.{set_same, at_below}
 use Rattle.clk_words.proofs.Clocks.{fits_seen, fits_good, clocks_view, makes_view, clocks_makes}
 use Rattle.clk_words.proofs.Pairs.{pairs_view, pairs_clock}
 use Rattle.clk_words.proofs.Modes.{modes_view, modes_word}
+use Rattle.clk_words.proofs.Quiet.{whole_view, quiet_view, whole_makes}
 
 -- a step that leaves the words: one view has changed, in what it has seen or loaded
 viewed : (start : Start) (s : State Step View) (id i : ℕ) (v w : View) → (kept : Kept start s) → get_elem? s.views id ≡ some v
-    → (w.live ≡ true → Fits start kept.history kept.made kept.holder kept.splitter id w) → w.pairs ≡ v.pairs → w.modes ≡ v.modes
+    → (w.live ≡ true → Fits start kept.history kept.made kept.holder kept.splitter id w) → w.pairs ≡ v.pairs → w.modes ≡ v.modes → w.seen ≡ kept.history
     → Kept start (record { words = set s.words i (get_or s.words i 0); homes = s.homes; views = set s.views id w })
-viewed start s id i v w kept at fits pairs modes =
+viewed start s id i v w kept at fits pairs modes seen =
     subst (λ ws. Kept start (record { words = ws; homes = s.homes; views = set s.views id w })) (sym (set_same s.words i))
     (record {
       history = kept.history;
@@ -51,6 +55,11 @@ viewed start s id i v w kept at fits pairs modes =
       wide = kept.wide;
       lifts_first = kept.lifts_first;
       lifted = kept.lifted;
+      whole = λ stable. whole_view kept.history s.views id w (kept.whole stable) (λ h. seen);
+      quiet = λ stable. let rest = kept.quiet stable in quiet_view kept.chain s.views id w rest
+          (λ r. ap (λ (p : PairView). (part_of p.parts r).zero) pairs ∙ rest.unknown id v at r)
+          (λ h r. subst (λ (m : ModeView). Knows (kept.chain r) (part_of m.cloned r)) (sym modes)
+          (rest.cloned id v at (ap (λ (m : ModeView). m.watch) (sym modes) ∙ h) r));
       clocks = clocks_view start kept.history kept.made kept.holder kept.splitter s.words s.views id w kept.clocks fits;
       pairs = pairs_view start.cpus (opens_at start) kept.chain kept.writer s.words s.views id v w kept.pairs at pairs;
       modes = modes_view start kept.percpu kept.offset kept.watcher s.words s.views id v w kept.modes at modes;
@@ -65,7 +74,7 @@ fits_looks start s id v loads kept at live fits =
     (record { rest = fits.front.rest; is = refl })
     (subst (λ zs. Begins zs kept.history) fits.front.is (begins_self kept.history))
 
-value_seen : (start : Start) (history : List Step) (v : View) (w : ℕ) (between : List Step) → v.start ≡ start → history ≡ v.seen ++ between
+pub value_seen : (start : Start) (history : List Step) (v : View) (w : ℕ) (between : List Step) → v.start ≡ start → history ≡ v.seen ++ between
     → value_after (opens_at v.start) w (v.seen ++ between) ≡ value_after (opens_at start) w history
 value_seen start history v w between e f = ap (λ (o : Start). value_after (opens_at o) w (v.seen ++ between)) e ∙ ap (value_after (opens_at start) w) (sym f)
 
@@ -84,7 +93,7 @@ looks_up start slots id w me live low s kept homes at small =
       u,
       keeps,
       tt,
-      viewed start s id w v u kept at (λ alive. now) refl refl,
+      viewed start s id w v u kept at (λ alive. now) refl refl (sym fits.front.is),
       record {
         value = x;
         word_is = subst (λ (o : Start). IsClockWord o x (get_or s.words w 0)) (sym fits.start_is) (part.clocks w low);
@@ -129,7 +138,7 @@ or_first : (a b : Bool) → b ≡ true → (a || b) ≡ true
 or_first true b e = refl
 or_first false b e = e
 
-lift_more : (steps more : List Step) (w : ℕ) → has_lift steps w ≡ true → has_lift (steps ++ more) w ≡ true
+pub lift_more : (steps more : List Step) (w : ℕ) → has_lift steps w ≡ true → has_lift (steps ++ more) w ≡ true
 lift_more [] more w e = absurd (cc)
 lift_more (s ∷ steps) more w e = at (is_lift s.why && nat_eq s.word w) e (lift_more steps more w)
   where
@@ -144,13 +153,13 @@ in_order_of start before (Couple from value) no_lift all = all
 in_order_of start before (Lift value) no_lift all = absurd (cc)
 
 -- a step is put into the history: the rule holds after it, and the seat has made it
-record IsMade (start : Start) (s : State Step View) (id n : ℕ) (v : View) (said : Step) (between : List Step) : Type 0 where
-  kept : Kept start (record { words = set s.words said.word n; homes = s.homes; views = set s.views id (makes_view v between said) })
-  good : IsGood (makes_view v between said)
+pub record IsMade (start : Start) (s : State Step View) (id n : ℕ) (v : View) (said : Step) (between : List Step) : Type 0 where
+  pub kept : Kept start (record { words = set s.words said.word n; homes = s.homes; views = set s.views id (makes_view v between said) })
+  pub good : IsGood (makes_view v between said)
 
-made_by : (start : Start) (s : State Step View) (id n : ℕ) (v : View) (said : Step) (between : List Step) → (kept : Kept start s)
+pub made_by : (start : Start) (s : State Step View) (id n : ℕ) (v : View) (said : Step) (between : List Step) → (kept : Kept start s)
     → get_elem? s.views id ≡ some v → v.live ≡ true → kept.history ≡ v.seen ++ between → said.by ≡ v.number → said.word < start.cpus
-    → (kept.percpu ≡ false → IsTrue (is_lift said.why)) → Follows start kept.history said → IsClockWord start said.new n
+    → (kept.percpu ≡ false → IsTrue (is_lift said.why) × (v.modes.watch ≡ true)) → Follows start kept.history said → IsClockWord start said.new n
     → IsMade start s id n v said between
 made_by start s id n v said between kept at live e by low lifts follows word =
     let u : View = makes_view v between said in
@@ -168,8 +177,11 @@ made_by start s id n v said between kept at live e by low lifts follows word =
         offset = kept.offset;
         watcher = kept.watcher;
         wide = length-set s.words said.word n ∙ kept.wide;
-        lifts_first = λ stable. All-push (λ (t : Step). IsTrue (is_lift t.why)) kept.history said (kept.lifts_first stable) (lifts stable);
+        lifts_first = λ stable. All-push (λ (t : Step). IsTrue (is_lift t.why)) kept.history said (kept.lifts_first stable) (lifts stable).0;
         lifted = λ e stable w low. lift_more kept.history (said ∷ []) w (kept.lifted e stable w low);
+        whole = λ stable. whole_makes kept.history s.views id kept.watcher u said (kept.whole stable) (λ j w here h. (kept.modes.each j w here).watches h)
+            ((kept.modes.each id v at).watches (lifts stable).1) (ap (λ zs. zs ++ said ∷ []) (sym e));
+        quiet = λ stable. let rest = kept.quiet stable in quiet_view kept.chain s.views id u rest (rest.unknown id v at) (rest.cloned id v at);
         clocks = clocks;
         pairs = pairs_view start.cpus (opens_at start) kept.chain kept.writer (set s.words said.word n) s.views id v u
             (pairs_clock start.cpus (opens_at start) kept.chain kept.writer s.words s.views said.word n low kept.pairs) at refl;
@@ -226,7 +238,7 @@ tries start slots id old new me said live may s kept homes at small =
       u,
       keeps,
       tt,
-      viewed start s id said.word v u kept at (λ alive. now) refl refl,
+      viewed start s id said.word v u kept at (λ alive. now) refl refl (sym e),
       rw no_hit (record {
         value = x;
         word_is = subst (λ (o : Start). IsClockWord o x n) (sym fits.start_is) word;
@@ -240,7 +252,7 @@ tries start slots id old new me said live may s kept homes at small =
     ))
 
 -- the greater of two words keeps what a raise leaves
-raised_word : (start : Start) (x y : ℤ) (m n : ℕ) → IsClock (opens_at start) x → IsNear 60 (height start y) → IsClockWord start x m → IsClockWord start y n
+pub raised_word : (start : Start) (x y : ℤ) (m n : ℕ) → IsClock (opens_at start) x → IsNear 60 (height start y) → IsClockWord start x m → IsClockWord start y n
     → IsClockWord start (raise x y) (max m n)
 raised_word start x y m n range near p q =
     let le = near.1 in

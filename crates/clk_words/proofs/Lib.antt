@@ -6,8 +6,11 @@ pub mod Registers
 pub mod Owning
 pub mod Pairs
 pub mod Modes
+pub mod Quiet
 pub mod Keeping
 pub mod Stamping
+pub mod Looking
+pub mod Watching
 pub mod Seating
 pub mod Ending
 pub mod Starting
@@ -15,5 +18,7 @@ pub mod Calling
 pub mod Meeting
 pub mod FirstWords
 pub mod Holding
+pub mod Lifted
 pub mod Loading
 pub mod Turns
+pub mod Demoting

@@ -1,5 +1,5 @@
 -- What splits and joins say, over plain data.
-use Rattle.std.proofs.Common.{◌≡◌, ℕ, ◌+◌, ◌<◌, ◌≤◌, ◌⊎◌, Bool, true, false, not, cond, ◌||◌, ◌&&◌, List, [], ◌∷◌, ◌++◌, nat_eq, refl, sym, ap, ◌∙◌, subst, inl, inr, ⊎_elim, arith}
+use Rattle.std.proofs.Common.{◌≡◌, ℕ, ◌+◌, ◌<◌, ◌≤◌, ◌⊎◌, ℤ, Option, None, Bool, true, false, not, cond, ◌||◌, ◌&&◌, List, [], ◌∷◌, ◌++◌, nat_eq, refl, sym, ap, ◌∙◌, subst, inl, inr, ⊎_elim, arith}
 use Rattle.std.proofs.lemmas.List.Elements.{All-nil, All-head, All-tail}
 use Rattle.clk_words.specs.declared.opening.Start.{Start}
 use Rattle.clk_words.specs.declared.step.Step.{Step}
@@ -125,6 +125,10 @@ says_joins a b w met =
     let P : List Part → Type 0 = λ parts. (r : ℕ) → PartBegins (part_of parts r) (part_of kept r) in
     let one = All-head F a.seen (b.seen ∷ []) met.fronts in
     let two = All-head F b.seen [] (All-tail F a.seen (b.seen ∷ []) met.fronts) in
+    let seen : Option ℤ = (joint_view a b).modes.offset in
+    let O : Option ℤ → Type 0 = λ z. (z ≡ None) ⊎ (z ≡ seen) in
+    let offset_one = All-head O a.modes.offset (b.modes.offset ∷ []) met.offsets in
+    let offset_two = All-head O b.modes.offset [] (All-tail O a.modes.offset (b.modes.offset ∷ []) met.offsets) in
     let parts_one = All-head P a.pairs.parts (b.pairs.parts ∷ []) met.parts in
     let parts_two = All-head P b.pairs.parts [] (All-tail P a.pairs.parts (b.pairs.parts ∷ []) met.parts) in
     record {
@@ -134,4 +138,6 @@ says_joins a b w met =
       second = subst (λ (u : View). Begins b.seen u.seen) (sym met.view_is) two;
       first_parts = subst (λ (u : View). (r : ℕ) → PartBegins (part_of a.pairs.parts r) (part_of u.pairs.parts r)) (sym met.view_is) parts_one;
       second_parts = subst (λ (u : View). (r : ℕ) → PartBegins (part_of b.pairs.parts r) (part_of u.pairs.parts r)) (sym met.view_is) parts_two;
+      first_offset = subst (λ (u : View). (a.modes.offset ≡ None) ⊎ (a.modes.offset ≡ u.modes.offset)) (sym met.view_is) offset_one;
+      second_offset = subst (λ (u : View). (b.modes.offset ≡ None) ⊎ (b.modes.offset ≡ u.modes.offset)) (sym met.view_is) offset_two;
     }

@@ -6,14 +6,16 @@ use mathlib.Core.Logic.{dite}
 use native.Mathlib.Decide.{ℕ_discrete}
 use Rattle.clk_num.specs.Range.{IsNear}
 use Rattle.clk_num.specs.Wrapping.{above, raise, IsAbove, IsNotBelow}
+use Rattle.clk_num.proofs.Wraps.{wrapped}
 use Rattle.clk_num.proofs.Heights.{wrap_fits, above_is, above_same, raise_up}
+use Rattle.clk_words.specs.declared.opening.Opening.{Opening}
 use Rattle.clk_words.specs.declared.opening.Start.{Start}
 use Rattle.clk_words.specs.declared.step.Step.{Step}
 use Rattle.clk_words.specs.Fronts.{Begins}
 use Rattle.clk_words.specs.Histories.{opens_at, value_after, HadValue, Follows, AllFollow, IsGlobalHistory, steps_by, steps_on, IsChain}
 use Rattle.clk_words.specs.Targets.{target}
 use Rattle.clk_words.specs.Heights.{height}
-use Rattle.clk_words.specs.Bounds.{IsClock}
+use Rattle.clk_words.specs.Bounds.{opens_of, IsOffset, IsOpening, IsClock}
 use Rattle.clk_words.proofs.Fronts.{begins_none}
 
 pub value_append : (x : ℤ) (w : ℕ) (xs ys : List Step) → value_after x w (xs ++ ys) ≡ value_after (value_after x w xs) w ys
@@ -185,3 +187,7 @@ words_rise start front back w legal =
     let all = legal_range start front (follow_front start [] front back legal) in
     not_below (opens_at start) (value_after (opens_at start) w front) (value_after (opens_at start) w (front ++ back)) (all w) (legal_range start (front ++ back) legal w)
     (rises start front back w (follow_back start [] front back legal) all)
+
+-- the offset of an opening is in range by itself
+pub offset_range : (o : Opening) → IsOpening o → IsOffset (opens_of o) o.offset
+offset_range o is = let low = is.gtod.0 in let high = is.gtod.1 in (omega (arith, ints, wrapped), omega (arith, ints, wrapped))

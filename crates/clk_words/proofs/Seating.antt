@@ -17,7 +17,8 @@ use Rattle.clk_words.specs.Told.{Met}
 use Rattle.clk_words.proofs.Places.{set_same, at_other}
 use Rattle.clk_words.proofs.Clocks.{fits_good, clocks_view, clocks_split, clocks_join}
 use Rattle.clk_words.proofs.Pairs.{HasGift, pairs_split, pairs_join, pairs_told}
-use Rattle.clk_words.proofs.Modes.{modes_view, HasWatch, modes_split, modes_join}
+use Rattle.clk_words.proofs.Modes.{modes_fit, fits_settled, HasWatch, modes_split, modes_join}
+use Rattle.clk_words.proofs.Quiet.{whole_view, quiet_view, whole_split, quiet_split, whole_join, quiet_join}
 
 pub gives : (start : Start) (id : ℕ) (v : View) (kind : SeatKind) → v.live ≡ true → 0 < v.made → HasGift kind v.pairs → HasWatch (is_watch kind) v.modes
     → Splits (Kept start) id v (giver_view kind v) (given_view kind v)
@@ -38,6 +39,8 @@ gives start id v kind live may gift watch s kept at =
       wide = kept.wide;
       lifts_first = kept.lifts_first;
       lifted = kept.lifted;
+      whole = λ stable. whole_split kept.history s.views id v kind (kept.whole stable) at watch;
+      quiet = λ stable. quiet_split kept.chain s.views id v kind (kept.quiet stable) at watch;
       clocks = clocks;
       pairs = pairs;
       modes = modes;
@@ -62,6 +65,8 @@ glues start id other v w live alive s kept at apart there =
       wide = kept.wide;
       lifts_first = kept.lifts_first;
       lifted = kept.lifted;
+      whole = λ stable. whole_join kept.history s.views id other v w (kept.whole stable) at theirs (kept.clocks.each id v at live).front (kept.clocks.each other w theirs alive).front;
+      quiet = λ stable. quiet_join kept.chain s.views id other v w (kept.quiet stable) at theirs;
       clocks = clocks;
       pairs = pairs;
       modes = modes;
@@ -98,9 +103,11 @@ meets start slots id i me live s kept homes at small =
             wide = kept.wide;
             lifts_first = kept.lifts_first;
             lifted = kept.lifted;
+            whole = λ stable. whole_view kept.history s.views id w (kept.whole stable) (kept.whole stable id v at);
+            quiet = λ stable. let rest = kept.quiet stable in quiet_view kept.chain s.views id w rest (rest.unknown id v at) (rest.cloned id v at);
             clocks = clocks_view start kept.history kept.made kept.holder kept.splitter s.words s.views id w kept.clocks (λ alive. now);
             pairs = pairs_told start.cpus (opens_at start) kept.chain kept.writer s.words s.views id v w kept.pairs at refl;
-            modes = modes_view start kept.percpu kept.offset kept.watcher s.words s.views id v w kept.modes at refl;
+            modes = modes_fit start kept.percpu kept.offset kept.watcher s.words s.views id w kept.modes (fits_settled kept.percpu kept.offset kept.watcher id v.modes (kept.modes.each id v at));
           }),
       record {
         slots_kept = refl;
@@ -109,6 +116,7 @@ meets start slots id i me live s kept homes at small =
           good = fits_good start kept.history kept.made kept.holder kept.splitter id w kept.clocks.legal now;
           fronts = fits.told_is;
           parts = (kept.pairs.each id v at).told_is;
+          offsets = (kept.modes.each id v at).told_is;
         };
       },
     )

@@ -1,5 +1,5 @@
 -- Loads and stores of the stamp words keep the rule.
-use Rattle.std.proofs.Common.{◌≡◌, ◌≢◌, ℕ, ◌+◌, ◌*◌, ◌<◌, ◌≤◌, ℤ, true, List, [], ◌∷◌, ◌++◌, length, get_or, set, Some, None, refl, sym, ap, ◌∙◌, subst, inl, inr, ⊎_elim, arith, length-set, length-append}
+use Rattle.std.proofs.Common.{◌≡◌, ◌≢◌, ℕ, ◌+◌, ◌*◌, ◌<◌, ◌≤◌, ℤ, true, true≢false, List, [], ◌∷◌, ◌++◌, length, get_or, set, Some, None, refl, sym, ap, ◌∙◌, subst, inl, inr, ⊎_elim, arith, length-set, length-append}
 use mathlib.Core.Option.{some, none}
 use mathlib.Core.Logic.{dite}
 use native.Mathlib.Decide.{ℕ_discrete}
@@ -34,9 +34,9 @@ found_view v r name x c more = record v {
 }
 
 keeps_load : (start : Start) (s : State Step View) (id i r : ℕ) (v : View) (name : Name) (x : ℤ) (more : List ℤ) → (kept : Kept start s)
-    → get_elem? s.views id ≡ some v → v.live ≡ true → (kept.chain r).after ≡ (part_of v.pairs.parts r).after ++ more
+    → get_elem? s.views id ≡ some v → v.live ≡ true → kept.percpu ≡ true → (kept.chain r).after ≡ (part_of v.pairs.parts r).after ++ more
     → Kept start (record { words = set s.words i (get_or s.words i 0); homes = s.homes; views = set s.views id (found_view v r name x (kept.chain r) more) })
-keeps_load start s id i r v name x more kept at live all =
+keeps_load start s id i r v name x more kept at live percpu all =
     let w = found_view v r name x (kept.chain r) more in
     let fits = kept.clocks.each id v at live in
     subst (λ ws. Kept start (record { words = ws; homes = s.homes; views = set s.views id w })) (sym (set_same s.words i))
@@ -53,6 +53,8 @@ keeps_load start s id i r v name x more kept at live all =
       wide = kept.wide;
       lifts_first = kept.lifts_first;
       lifted = kept.lifted;
+      whole = λ stable. absurd (true≢false (sym percpu ∙ stable));
+      quiet = λ stable. absurd (true≢false (sym percpu ∙ stable));
       clocks = clocks_view start kept.history kept.made kept.holder kept.splitter s.words s.views id w kept.clocks
           (λ alive. fits_seen start kept.history kept.made kept.holder kept.splitter id v v.seen w.loads w.pairs fits (begins_self v.seen) fits.front);
       pairs = pairs_load start.cpus (opens_at start) kept.chain kept.writer s.words s.views id r v w kept.pairs at more all refl;
@@ -75,10 +77,10 @@ finds_of v r name c more knows all = record {
 none_more : (xs ys more : List ℤ) → ys ≡ xs ++ more → xs ≡ ys → more ≡ []
 none_more xs ys more e f = begins_none xs more (sym e ∙ sym f)
 
-pub finds_gtod : (start : Start) (slots id : ℕ) (me : Me Step View) → me.0.live ≡ true → cpu_of me.0.kind < start.cpus
+pub finds_gtod : (start : Start) (slots id : ℕ) (me : Me Step View) → me.0.live ≡ true → me.0.modes.found ≡ true → cpu_of me.0.kind < start.cpus
     → Allows (Kept start) slots id me (start.cpus + gtod_of (cpu_of me.0.kind)) (λ n. n) (LoadedGtod (step slots (start.cpus + gtod_of (cpu_of me.0.kind)) 0 0 none) me)
 unfolding finds_of
-finds_gtod start slots id me live low s kept homes at small =
+finds_gtod start slots id me live found low s kept homes at small =
     let v = me.0 in
     let cpu = cpu_of v.kind in
     let r = gtod_of cpu in
@@ -96,7 +98,7 @@ finds_gtod start slots id me live low s kept homes at small =
       w,
       keeps,
       tt,
-      keeps_load start s id (start.cpus + r) r v (Gtod cpu) x more kept at live all,
+      keeps_load start s id (start.cpus + r) r v (Gtod cpu) x more kept at live ((kept.modes.each id v at).found_is found) all,
       record {
         value = x;
         word_is = kept.pairs.lasts r (omega arith);
@@ -110,10 +112,10 @@ finds_gtod start slots id me live low s kept homes at small =
       },
     )
 
-pub finds_raw : (start : Start) (slots id : ℕ) (me : Me Step View) → me.0.live ≡ true → cpu_of me.0.kind < start.cpus
+pub finds_raw : (start : Start) (slots id : ℕ) (me : Me Step View) → me.0.live ≡ true → me.0.modes.found ≡ true → cpu_of me.0.kind < start.cpus
     → Allows (Kept start) slots id me (start.cpus + raw_of (cpu_of me.0.kind)) (λ n. n) (LoadedRaw (step slots (start.cpus + raw_of (cpu_of me.0.kind)) 0 0 none) me)
 unfolding finds_of
-finds_raw start slots id me live low s kept homes at small =
+finds_raw start slots id me live found low s kept homes at small =
     let v = me.0 in
     let cpu = cpu_of v.kind in
     let r = raw_of cpu in
@@ -126,7 +128,7 @@ finds_raw start slots id me live low s kept homes at small =
       found_view v r (Raw cpu) x c more,
       keeps,
       tt,
-      keeps_load start s id (start.cpus + r) r v (Raw cpu) x more kept at live all,
+      keeps_load start s id (start.cpus + r) r v (Raw cpu) x more kept at live ((kept.modes.each id v at).found_is found) all,
       record {
         value = x;
         word_is = kept.pairs.lasts r (omega arith);
@@ -141,13 +143,13 @@ finds_raw start slots id me live low s kept homes at small =
 
 -- the owner's stores
 keeps_store : (start : Start) (s : State Step View) (id r cpu n : ℕ) (x : ℤ) (v : View) → (kept : Kept start s)
-    → get_elem? s.views id ≡ some v → v.live ≡ true → has_number v.pairs.owns cpu ≡ true → cpu < start.cpus → IsRegisterOf r cpu → IsBitsOf x n
+    → get_elem? s.views id ≡ some v → v.live ≡ true → kept.percpu ≡ true → has_number v.pairs.owns cpu ≡ true → cpu < start.cpus → IsRegisterOf r cpu → IsBitsOf x n
     → (part_of v.pairs.parts r).after ≡ (kept.chain r).after
     → ((c : ℕ) → length (later_chain kept.chain r x (raw_of c)).after ≤ length (later_chain kept.chain r x (gtod_of c)).after)
     → ((c : ℕ) → length (later_chain kept.chain r x (gtod_of c)).after ≤ length (later_chain kept.chain r x (raw_of c)).after + 1)
     → ((c : ℕ) → IsGtod (last_of (later_chain kept.chain r x (gtod_of c)))) → ((c : ℕ) → IsRaw (opens_at start) (last_of (later_chain kept.chain r x (raw_of c))))
     → Kept start (record { words = set s.words (start.cpus + r) n; homes = s.homes; views = set s.views id (stamped r x v) })
-keeps_store start s id r cpu n x v kept at live own low reg word whole ahead close gtods raws =
+keeps_store start s id r cpu n x v kept at live percpu own low reg word whole ahead close gtods raws =
     let w = stamped r x v in
     let fits = kept.clocks.each id v at live in
     let within : r < 2 * start.cpus = ⊎_elim (λ (e : r ≡ gtod_of cpu). omega arith) (λ (e : r ≡ raw_of cpu). omega arith) reg.either in
@@ -164,6 +166,8 @@ keeps_store start s id r cpu n x v kept at live own low reg word whole ahead clo
       wide = length-set s.words (start.cpus + r) n ∙ kept.wide;
       lifts_first = kept.lifts_first;
       lifted = kept.lifted;
+      whole = λ stable. absurd (true≢false (sym percpu ∙ stable));
+      quiet = λ stable. absurd (true≢false (sym percpu ∙ stable));
       clocks = clocks_view start kept.history kept.made kept.holder kept.splitter (set s.words (start.cpus + r) n) s.views id w
           (clocks_words start kept.history kept.made kept.holder kept.splitter s.words s.views (start.cpus + r) n (omega arith) kept.clocks)
           (λ alive. fits_seen start kept.history kept.made kept.holder kept.splitter id v v.seen v.loads w.pairs fits (begins_self v.seen) fits.front);
@@ -184,12 +188,12 @@ last_at P chain r k x new old = dite (ℕ_discrete k r)
 last_else : (P : ℤ → Type 0) (chain : ℕ → Chain) (r k : ℕ) (x : ℤ) → k ≢ r → P (last_of (chain k)) → P (last_of (later_chain chain r x k))
 last_else P chain r k x ne old = rw (later_else chain r k x ne) old
 
-pub stores_gtod : (start : Start) (slots id n : ℕ) (me : Me Step View) (x : ℤ) → me.0.live ≡ true → cpu_of me.0.kind < start.cpus
+pub stores_gtod : (start : Start) (slots id n : ℕ) (me : Me Step View) (x : ℤ) → me.0.live ≡ true → me.0.modes.found ≡ true → cpu_of me.0.kind < start.cpus
     → has_number me.0.pairs.owns (cpu_of me.0.kind) ≡ true → IsBitsOf x n → IsGtod x
     → length (part_of me.0.pairs.parts (gtod_of (cpu_of me.0.kind))).after ≡ length (part_of me.0.pairs.parts (raw_of (cpu_of me.0.kind))).after
     → Allows (Kept start) slots id me (start.cpus + gtod_of (cpu_of me.0.kind)) (λ _. n)
     (λ _. StoredGtod (step slots (start.cpus + gtod_of (cpu_of me.0.kind)) n 0 none) me n)
-stores_gtod start slots id n me x live low own word bound turn s kept homes at small =
+stores_gtod start slots id n me x live found low own word bound turn s kept homes at small =
     let v = me.0 in
     let cpu = cpu_of v.kind in
     let r = gtod_of cpu in
@@ -199,7 +203,7 @@ stores_gtod start slots id n me x live low own word bound turn s kept homes at s
       stamped r x v,
       keeps,
       tt,
-      keeps_store start s id r cpu n x v kept at live own low (record { either = inl refl }) word (fits.gtods cpu own)
+      keeps_store start s id r cpu n x v kept at live ((kept.modes.each id v at).found_is found) own low (record { either = inl refl }) word (fits.gtods cpu own)
           (λ c. let apart : raw_of c ≢ r = λ h. omega arith in
           dite (ℕ_discrete (gtod_of c) r)
           (λ e. subst (λ i. length (later_chain kept.chain r x (raw_of c)).after ≤ length (later_chain kept.chain r x i).after) (sym e)
@@ -220,12 +224,12 @@ stores_gtod start slots id n me x live low own word bound turn s kept homes at s
       record { value = x; word_is = word; is = refl },
     )
 
-pub stores_raw : (start : Start) (slots id n : ℕ) (me : Me Step View) (x : ℤ) → me.0.live ≡ true → cpu_of me.0.kind < start.cpus
+pub stores_raw : (start : Start) (slots id n : ℕ) (me : Me Step View) (x : ℤ) → me.0.live ≡ true → me.0.modes.found ≡ true → cpu_of me.0.kind < start.cpus
     → has_number me.0.pairs.owns (cpu_of me.0.kind) ≡ true → IsBitsOf x n → IsRaw (opens_at start) x
     → length (part_of me.0.pairs.parts (gtod_of (cpu_of me.0.kind))).after ≡ length (part_of me.0.pairs.parts (raw_of (cpu_of me.0.kind))).after + 1
     → Allows (Kept start) slots id me (start.cpus + raw_of (cpu_of me.0.kind)) (λ _. n)
     (λ _. StoredRaw (step slots (start.cpus + raw_of (cpu_of me.0.kind)) n 0 none) me n)
-stores_raw start slots id n me x live low own word bound turn s kept homes at small =
+stores_raw start slots id n me x live found low own word bound turn s kept homes at small =
     let v = me.0 in
     let cpu = cpu_of v.kind in
     let r = raw_of cpu in
@@ -235,7 +239,7 @@ stores_raw start slots id n me x live low own word bound turn s kept homes at sm
       stamped r x v,
       keeps,
       tt,
-      keeps_store start s id r cpu n x v kept at live own low (record { either = inr refl }) word (fits.raws cpu own)
+      keeps_store start s id r cpu n x v kept at live ((kept.modes.each id v at).found_is found) own low (record { either = inr refl }) word (fits.raws cpu own)
           (λ c. let apart : gtod_of c ≢ r = λ h. omega arith in
           dite (ℕ_discrete (raw_of c) r)
           (λ e.
@@ -257,26 +261,26 @@ stores_raw start slots id n me x live low own word bound turn s kept homes at sm
     )
 
 -- the same at a place that is known by an equation
-pub finds_gtod_at : (start : Start) (slots id word : ℕ) (me : Me Step View) → word ≡ start.cpus + gtod_of (cpu_of me.0.kind) → me.0.live ≡ true → cpu_of me.0.kind < start.cpus
+pub finds_gtod_at : (start : Start) (slots id word : ℕ) (me : Me Step View) → word ≡ start.cpus + gtod_of (cpu_of me.0.kind) → me.0.live ≡ true → me.0.modes.found ≡ true → cpu_of me.0.kind < start.cpus
     → Allows (Kept start) slots id me word (λ n. n) (LoadedGtod (step slots word 0 0 none) me)
-finds_gtod_at start slots id word me e live low =
-    subst (λ i. Allows (Kept start) slots id me i (λ n. n) (LoadedGtod (step slots i 0 0 none) me)) (sym e) (finds_gtod start slots id me live low)
+finds_gtod_at start slots id word me e live found low =
+    subst (λ i. Allows (Kept start) slots id me i (λ n. n) (LoadedGtod (step slots i 0 0 none) me)) (sym e) (finds_gtod start slots id me live found low)
 
-pub finds_raw_at : (start : Start) (slots id word : ℕ) (me : Me Step View) → word ≡ start.cpus + raw_of (cpu_of me.0.kind) → me.0.live ≡ true → cpu_of me.0.kind < start.cpus
+pub finds_raw_at : (start : Start) (slots id word : ℕ) (me : Me Step View) → word ≡ start.cpus + raw_of (cpu_of me.0.kind) → me.0.live ≡ true → me.0.modes.found ≡ true → cpu_of me.0.kind < start.cpus
     → Allows (Kept start) slots id me word (λ n. n) (LoadedRaw (step slots word 0 0 none) me)
-finds_raw_at start slots id word me e live low =
-    subst (λ i. Allows (Kept start) slots id me i (λ n. n) (LoadedRaw (step slots i 0 0 none) me)) (sym e) (finds_raw start slots id me live low)
+finds_raw_at start slots id word me e live found low =
+    subst (λ i. Allows (Kept start) slots id me i (λ n. n) (LoadedRaw (step slots i 0 0 none) me)) (sym e) (finds_raw start slots id me live found low)
 
-pub stores_gtod_at : (start : Start) (slots id word n : ℕ) (me : Me Step View) (x : ℤ) → word ≡ start.cpus + gtod_of (cpu_of me.0.kind) → me.0.live ≡ true → cpu_of me.0.kind < start.cpus
+pub stores_gtod_at : (start : Start) (slots id word n : ℕ) (me : Me Step View) (x : ℤ) → word ≡ start.cpus + gtod_of (cpu_of me.0.kind) → me.0.live ≡ true → me.0.modes.found ≡ true → cpu_of me.0.kind < start.cpus
     → has_number me.0.pairs.owns (cpu_of me.0.kind) ≡ true → IsBitsOf x n → IsGtod x
     → length (part_of me.0.pairs.parts (gtod_of (cpu_of me.0.kind))).after ≡ length (part_of me.0.pairs.parts (raw_of (cpu_of me.0.kind))).after
     → Allows (Kept start) slots id me word (λ _. n) (λ _. StoredGtod (step slots word n 0 none) me n)
-stores_gtod_at start slots id word n me x e live low own is bound turn =
-    subst (λ i. Allows (Kept start) slots id me i (λ _. n) (λ _. StoredGtod (step slots i n 0 none) me n)) (sym e) (stores_gtod start slots id n me x live low own is bound turn)
+stores_gtod_at start slots id word n me x e live found low own is bound turn =
+    subst (λ i. Allows (Kept start) slots id me i (λ _. n) (λ _. StoredGtod (step slots i n 0 none) me n)) (sym e) (stores_gtod start slots id n me x live found low own is bound turn)
 
-pub stores_raw_at : (start : Start) (slots id word n : ℕ) (me : Me Step View) (x : ℤ) → word ≡ start.cpus + raw_of (cpu_of me.0.kind) → me.0.live ≡ true → cpu_of me.0.kind < start.cpus
+pub stores_raw_at : (start : Start) (slots id word n : ℕ) (me : Me Step View) (x : ℤ) → word ≡ start.cpus + raw_of (cpu_of me.0.kind) → me.0.live ≡ true → me.0.modes.found ≡ true → cpu_of me.0.kind < start.cpus
     → has_number me.0.pairs.owns (cpu_of me.0.kind) ≡ true → IsBitsOf x n → IsRaw (opens_at start) x
     → length (part_of me.0.pairs.parts (gtod_of (cpu_of me.0.kind))).after ≡ length (part_of me.0.pairs.parts (raw_of (cpu_of me.0.kind))).after + 1
     → Allows (Kept start) slots id me word (λ _. n) (λ _. StoredRaw (step slots word n 0 none) me n)
-stores_raw_at start slots id word n me x e live low own is bound turn =
-    subst (λ i. Allows (Kept start) slots id me i (λ _. n) (λ _. StoredRaw (step slots i n 0 none) me n)) (sym e) (stores_raw start slots id n me x live low own is bound turn)
+stores_raw_at start slots id word n me x e live found low own is bound turn =
+    subst (λ i. Allows (Kept start) slots id me i (λ _. n) (λ _. StoredRaw (step slots i n 0 none) me n)) (sym e) (stores_raw start slots id n me x live found low own is bound turn)

@@ -1,5 +1,5 @@
 -- The rule holds of new words and their first seat.
-use Rattle.std.proofs.Common.{◌≡◌, ℕ, zero, suc, ◌+◌, ◌*◌, ◌/◌, ◌%◌, ◌<◌, ◌≤◌, ◌⊎◌, ℤ, true, false, cond, List, [], ◌∷◌, get_or, nat_eq, Some, refl, sym, ap, subst, inl, inr, ⊎_elim, arith, eq-eqb, ne_eqb, true≢false, ◌∙◌}
+use Rattle.std.proofs.Common.{◌≡◌, ℕ, zero, suc, ◌+◌, ◌*◌, ◌/◌, ◌%◌, ◌<◌, ◌≤◌, ◌⊎◌, ℤ, Bool, true, false, IsTrue, Option, None, cond, List, [], ◌∷◌, get_or, nat_eq, Some, refl, sym, ap, subst, inl, inr, ⊎_elim, arith, eq-eqb, ne_eqb, true≢false, ◌∙◌}
 use Rattle.std.proofs.lemmas.List.Elements.{All-nil, All-cons}
 use mathlib.Core.Option.{some, some-injective, some-ne-none}
 use mathlib.Core.Logic.{dite}
@@ -7,14 +7,13 @@ use native.Mathlib.Decide.{ℕ_discrete}
 use lib.ListN.{get_elem?}
 use Rattle.atomic_table.specs.Table.{opening}
 use Rattle.clk_num.specs.Wrapping.{IsBitsOf}
-use Rattle.clk_words.specs.declared.opening.Mode.TheVariants.{PerCpu}
 use Rattle.clk_words.specs.declared.opening.Opening.{Opening}
 use Rattle.clk_words.specs.declared.opening.Start.{Start}
 use Rattle.clk_words.specs.declared.step.Step.{Step}
 use Rattle.clk_words.specs.declared.view.View.{View}
 use Rattle.clk_words.specs.declared.view.Part.{Part}
 use Rattle.clk_words.specs.Fronts.{Begins}
-use Rattle.clk_words.specs.Histories.{opens_at}
+use Rattle.clk_words.specs.Histories.{opens_at, is_lift}
 use Rattle.clk_words.specs.Bounds.{IsOpening}
 use Rattle.clk_words.specs.Parts.{gtod_of, raw_of, part_of, PartBegins}
 use Rattle.clk_words.specs.Rights.{has_number}
@@ -22,7 +21,7 @@ use Rattle.clk_words.specs.Views.{is_percpu, pairs_known, first_view}
 use Rattle.clk_words.specs.Kept.{IsOwn, Fits, HistoryPart, Chain, Knows, FitsPairs, PairPart, FitsModes, ModePart, Kept}
 use Rattle.clk_words.specs.FirstWords.{AreFirst}
 use Rattle.clk_words.proofs.Fronts.{begins_self}
-use Rattle.clk_words.proofs.Replay.{opening_range}
+use Rattle.clk_words.proofs.Replay.{opening_range, offset_range}
 
 -- the only view
 only : (w u : View) (j : ℕ) → get_elem? (w ∷ []) j ≡ some u → (j ≡ 0) × (w ≡ u)
@@ -85,12 +84,25 @@ starts_clocks start ws first = record {
   });
 }
 
-starts_pairs : (start : Start) (ws : List ℕ) → start.opening.mode ≡ PerCpu → IsOpening start.opening → AreFirst start ws
+-- what the first seat knows of the pairs: in a stable start nothing
+start_knows : (start : Start) (r : ℕ) (b : Bool)
+    → Knows (record { zero_is = first_value start.opening r; after = [] }) (part_of (cond b (pairs_known start.cpus start.opening) []) r)
+start_knows start r true = first_knows start.cpus r start.opening
+start_knows start r false = record { zero_is = inl refl; after = begins_self [] }
+
+start_after : (start : Start) (r : ℕ) (b : Bool) → (part_of (cond b (pairs_known start.cpus start.opening) []) r).after ≡ []
+start_after start r true = first_after start.cpus r start.opening
+start_after start r false = refl
+
+start_hidden : (start : Start) (b : Bool) → b ≡ false → (r : ℕ) → (part_of (cond b (pairs_known start.cpus start.opening) []) r).zero ≡ None
+start_hidden start true e r = absurd (true≢false e)
+start_hidden start false e r = refl
+
+starts_pairs : (start : Start) (ws : List ℕ) → IsOpening start.opening → AreFirst start ws
     → PairPart start.cpus (opens_at start) (λ r. record { zero_is = first_value start.opening r; after = [] }) (λ _. 0) ws (first_view start ∷ [])
-starts_pairs start ws mode bounds first =
+starts_pairs start ws bounds first =
     let chain : ℕ → Chain = λ r. record { zero_is = first_value start.opening r; after = [] } in
-    let percpu : is_percpu start.opening.mode ≡ true = ap is_percpu mode in
-    let parts : (first_view start).pairs.parts ≡ pairs_known start.cpus start.opening = rw percpu refl in
+    let percpu = is_percpu start.opening.mode in
     record {
       lasts = λ r low. ⊎_elim
           (λ (e : r ≡ 2 * (r / 2)). subst (λ k. IsBitsOf (first_value start.opening k) (get_or ws (start.cpus + k) 0)) (sym e)
@@ -104,28 +116,45 @@ starts_pairs start ws mode bounds first =
       raws = λ c. rw (first_raw start.opening c) bounds.raw;
       writers = only_one (λ j u. (c : ℕ) → has_number u.pairs.owns c ≡ true → 0 ≡ j) (first_view start) (λ c own. refl);
       each = only_one (λ j u. FitsPairs chain u.pairs) (first_view start) (record {
-        known = λ r. rw parts (first_knows start.cpus r start.opening);
-        gtods = λ c own. rw parts (first_after start.cpus (gtod_of c) start.opening);
-        raws = λ c own. rw parts (first_after start.cpus (raw_of c) start.opening);
+        known = λ r. start_knows start r percpu;
+        gtods = λ c own. start_after start (gtod_of c) percpu;
+        raws = λ c own. start_after start (raw_of c) percpu;
         told_is = All-nil (λ (told : List Part). (r : ℕ) → PartBegins (part_of told r) (part_of (first_view start).pairs.parts r));
       });
     }
 
-starts_modes : (start : Start) (ws : List ℕ) → start.opening.mode ≡ PerCpu → AreFirst start ws
+start_offset : (x : ℤ) (b : Bool) → (cond b (Some x) None ≡ None) ⊎ (cond b (Some x) None ≡ Some x)
+start_offset x true = inr refl
+start_offset x false = inl refl
+
+no_offset : (x : ℤ) (b : Bool) → b ≡ false → cond b (Some x) None ≡ None
+no_offset x true e = absurd (true≢false e)
+no_offset x false e = refl
+
+starts_modes : (start : Start) (ws : List ℕ) → IsOpening start.opening → AreFirst start ws
     → ModePart start (is_percpu start.opening.mode) start.opening.offset 0 ws (first_view start ∷ [])
-starts_modes start ws mode first =
-    let percpu : is_percpu start.opening.mode ≡ true = ap is_percpu mode in
+starts_modes start ws bounds first =
+    let percpu = is_percpu start.opening.mode in
     record {
       mode_word = first.mode;
       offset_word = first.offset;
-      fixed = λ e. (percpu, refl);
+      range = offset_range start.opening bounds;
+      fixed = λ e. (ap is_percpu e, refl);
       each = only_one (λ j u. FitsModes (is_percpu start.opening.mode) start.opening.offset 0 j u.modes) (first_view start)
-          (record { found_is = λ h. h; offset_is = rw percpu (inr refl); watches = λ h. refl });
+          (record {
+            found_is = λ h. h;
+            offset_is = start_offset start.opening.offset percpu;
+            watches = λ h. refl;
+            knows = λ h. refl;
+            hidden = no_offset start.opening.offset percpu;
+            held_is = λ h. refl;
+            told_is = All-nil (λ (seen : Option ℤ). (seen ≡ None) ⊎ (seen ≡ (first_view start).modes.offset));
+          });
     }
 
-pub starts : (start : Start) (ws : List ℕ) → start.opening.mode ≡ PerCpu → IsOpening start.opening → AreFirst start ws
+pub starts : (start : Start) (ws : List ℕ) → IsOpening start.opening → AreFirst start ws
     → Kept start (opening ws [] (first_view start))
-starts start ws mode bounds first = record {
+starts start ws bounds first = record {
   history = [];
   made = 1;
   holder = λ _. 0;
@@ -136,9 +165,16 @@ starts start ws mode bounds first = record {
   offset = start.opening.offset;
   watcher = 0;
   wide = first.wide;
-  lifts_first = λ stable. absurd (true≢false (sym (ap is_percpu mode) ∙ stable));
-  lifted = λ e stable. absurd (true≢false (sym (ap is_percpu mode) ∙ ap is_percpu stable));
+  lifts_first = λ stable. All-nil (λ (t : Step). IsTrue (is_lift t.why));
+  lifted = λ e stable. absurd (true≢false (sym e ∙ ap is_percpu stable));
+  whole = λ stable. only_one (λ j u. u.modes.watch ≡ true → u.seen ≡ []) (first_view start) (λ h. refl);
+  quiet = λ stable. record {
+    bare = λ r. refl;
+    unknown = only_one (λ j u. (r : ℕ) → (part_of u.pairs.parts r).zero ≡ None) (first_view start) (start_hidden start (is_percpu start.opening.mode) stable);
+    cloned = only_one (λ j u. u.modes.watch ≡ true → (r : ℕ) → Knows (record { zero_is = first_value start.opening r; after = [] }) (part_of u.modes.cloned r)) (first_view start)
+        (λ h r. record { zero_is = inl refl; after = begins_self [] });
+  };
   clocks = starts_clocks start ws first;
-  pairs = starts_pairs start ws mode bounds first;
-  modes = starts_modes start ws mode first;
+  pairs = starts_pairs start ws bounds first;
+  modes = starts_modes start ws bounds first;
 }

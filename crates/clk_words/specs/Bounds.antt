@@ -1,5 +1,5 @@
 -- The bounds on what is handed in, all in ns. Values wrap, so all but a GTOD are bounded from the words' opening on.
-use Rattle.std.specs.Prelude.{◌-◌, ◌^◌, ℤ, pos, ◌+ℤ◌, ◌-ℤ◌, ◌≤ℤ◌}
+use Rattle.std.specs.Prelude.{◌≡◌, ◌-◌, ◌^◌, ℤ, pos, ◌+ℤ◌, ◌-ℤ◌, ◌≤ℤ◌}
 use Rattle.clk_num.specs.Range.{IsNear, IsFrom0To}
 use Rattle.clk_num.specs.Wrapping.{IsValue, wrap, above}
 use Rattle.clk_words.specs.declared.opening.Opening.{Opening}
@@ -25,6 +25,14 @@ IsClock opens x = IsValue x × (pos 0 ≤ℤ above x opens) × (above x opens �
 
 abbrev pub IsTick : ℤ → Type 0
 IsTick x = (pos 1 ≤ℤ x) × (x ≤ℤ pos (2 ^ 30))
+
+-- what a word may be lifted to: the sum of a GTOD and an offset in range
+pub record IsLiftValue (opens value : ℤ) : Type 0 where
+  pub gtod : ℤ
+  pub offset : ℤ
+  pub value_is : value ≡ wrap (gtod +ℤ offset)
+  pub gtod_range : IsGtod gtod
+  pub offset_range : IsOffset opens offset
 
 -- its offset is in range by itself
 pub record IsOpening (o : Opening) : Type 0 where

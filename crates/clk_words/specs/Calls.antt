@@ -1,5 +1,5 @@
 -- What a call does to a seat, and what the history is at the end.
-use Rattle.std.specs.Prelude.{◌≡◌, ℕ, ◌<◌, ℤ, List, flat_map, All}
+use Rattle.std.specs.Prelude.{◌≡◌, ℕ, ◌<◌, ℤ, List, flat_map, All, Option, None, ◌⊎◌}
 use Rattle.std.specs.List.{sum_by}
 use Rattle.clk_num.specs.Wrapping.{IsAbove}
 use Rattle.clk_words.specs.declared.opening.Start.{Start}
@@ -8,6 +8,7 @@ use Rattle.clk_words.specs.declared.step.Why.{Why}
 use Rattle.clk_words.specs.declared.step.Put.{Put}
 use Rattle.clk_words.specs.declared.step.Put.TheVariants.{Done, Lost}
 use Rattle.clk_words.specs.declared.view.View.{View}
+use Rattle.clk_words.specs.declared.view.ModeView.{ModeView}
 use Rattle.clk_words.specs.Fronts.{Begins}
 use Rattle.clk_words.specs.Histories.{opens_at, value_after, IsGlobalHistory, IsChain, steps_by, steps_on}
 use Rattle.clk_words.specs.Parts.{part_of, PartBegins}
@@ -34,7 +35,11 @@ pub record Loses (v : View) (word : ℕ) (old found : ℤ) (w : View) : Type 0 w
   pub value_is : value_after (opens_at v.start) word w.seen ≡ found
   pub later : IsAbove found old
 
--- two seats as one: what either side had seen begins what is kept, and an owner's list is kept as it was
+-- what was seen of the offset is seen still
+abbrev pub KeepsOffset : View → View → Type 0
+KeepsOffset v w = (v.modes.offset ≡ None) ⊎ (v.modes.offset ≡ w.modes.offset)
+
+-- two seats as one: what either side had seen begins what is kept, an owner's list is kept as it was, and so is the offset
 pub record Joins (a b w : View) : Type 0 where
   pub view_is : w ≡ together a b
   pub good : IsGood w
@@ -42,6 +47,8 @@ pub record Joins (a b w : View) : Type 0 where
   pub second : Begins b.seen w.seen
   pub first_parts : (r : ℕ) → PartBegins (part_of a.pairs.parts r) (part_of w.pairs.parts r)
   pub second_parts : (r : ℕ) → PartBegins (part_of b.pairs.parts r) (part_of w.pairs.parts r)
+  pub first_offset : KeepsOffset a w
+  pub second_offset : KeepsOffset b w
 
 -- all steps that a seat has
 abbrev pub all_steps : View → List Step
@@ -57,7 +64,11 @@ pub record IsComplete (start : Start) (v : View) (history : List Step) : Type 0 
   pub made_by : All (λ s. s.by < v.made) history
   pub chain : (w : ℕ) → IsChain (opens_at start) (steps_on w history)
 
--- what no load, exchange or stamp changes
+-- the same view of the modes with this of the offset
+abbrev pub with_offset : Option ℤ → ModeView → ModeView
+with_offset seen m = record m { offset = seen }
+
+-- what no load, exchange or stamp changes; of the modes a load may only learn the offset
 pub record KeepsSeat (v w : View) : Type 0 where
   pub start_is : w.start ≡ v.start
   pub number_is : w.number ≡ v.number
@@ -66,4 +77,5 @@ pub record KeepsSeat (v w : View) : Type 0 where
   pub joined_is : w.joined ≡ v.joined
   pub owns_is : w.pairs.owns ≡ v.pairs.owns
   pub gives_is : w.gives ≡ v.gives
-  pub modes_is : w.modes ≡ v.modes
+  pub modes_is : w.modes ≡ with_offset w.modes.offset v.modes
+  pub offset_is : KeepsOffset v w

@@ -1,5 +1,5 @@
 -- The rule, which holds between any two steps: three parts over one base.
-use Rattle.std.specs.Prelude.{◌≡◌, ℕ, ◌+◌, ◌*◌, ◌<◌, ◌≤◌, ℤ, Bool, true, List, length, slice_index, nat_eq, All, ◌⊎◌, None, Some, if◌then◌else◌, false, IsTrue}
+use Rattle.std.specs.Prelude.{◌≡◌, ℕ, ◌+◌, ◌*◌, ◌<◌, ◌≤◌, ℤ, Bool, true, List, [], length, slice_index, nat_eq, All, ◌⊎◌, None, Some, if◌then◌else◌, false, IsTrue}
 use Rattle.std.specs.List.{count_by}
 use mathlib.Core.Option.{some}
 use lib.ListN.{get_elem?}
@@ -15,7 +15,7 @@ use Rattle.clk_words.specs.declared.view.ModeView.{ModeView}
 use Rattle.clk_words.specs.Fronts.{Begins}
 use Rattle.clk_words.specs.Histories.{is_lift, AllLifted, opens_at, value_after, IsGlobalHistory, steps_by}
 use Rattle.clk_words.specs.Heights.{IsClockWord}
-use Rattle.clk_words.specs.Bounds.{IsGtod, IsRaw, IsClock}
+use Rattle.clk_words.specs.Bounds.{IsGtod, IsRaw, IsOffset, IsClock}
 use Rattle.clk_words.specs.Parts.{gtod_of, raw_of, part_of, last_from, PartBegins}
 use Rattle.clk_words.specs.Rights.{has_number}
 use Rattle.clk_words.specs.Views.{own_lists}
@@ -74,18 +74,34 @@ pub record PairPart (cpus : ℕ) (opens : ℤ) (chain : ℕ → Chain) (writer :
   pub writers : (j : ℕ) (v : View) → get_elem? views j ≡ some v → (c : ℕ) → has_number v.pairs.owns c ≡ true → writer c ≡ j
   pub each : (j : ℕ) (v : View) → get_elem? views j ≡ some v → FitsPairs chain v.pairs
 
--- what the mode part says of one view
+-- what the mode part says of one view: while the mode is stable none has seen the offset, and the watchdog's seat knows
+-- both as they stand
 pub record FitsModes (percpu : Bool) (offset : ℤ) (watcher j : ℕ) (m : ModeView) : Type 0 where
   pub found_is : m.found ≡ true → percpu ≡ true
   pub offset_is : (m.offset ≡ None) ⊎ (m.offset ≡ Some offset)
   pub watches : m.watch ≡ true → watcher ≡ j
+  pub knows : m.watch ≡ true → m.found ≡ percpu
+  pub hidden : percpu ≡ false → m.offset ≡ None
+  pub held_is : m.watch ≡ true → m.held ≡ Some offset
+  pub told_is : All (λ seen. (seen ≡ None) ⊎ (seen ≡ m.offset)) m.told
 
 -- the mode part: the mode and the offset stand in their words, and one seat has the watchdog's right
 pub record ModePart (start : Start) (percpu : Bool) (offset : ℤ) (watcher : ℕ) (words : List ℕ) (views : List View) : Type 0 where
   pub mode_word : slice_index words (3 * start.cpus) ≡ (if percpu then 1 else 0)
   pub offset_word : IsBitsOf offset (slice_index words (3 * start.cpus + 1))
+  pub range : IsOffset (opens_at start) offset
   pub fixed : start.opening.mode ≡ PerCpu → (percpu ≡ true) × (offset ≡ start.opening.offset)
   pub each : (j : ℕ) (v : View) → get_elem? views j ≡ some v → FitsModes percpu offset watcher j v.modes
+
+-- the seat with the watchdog's right has seen the whole history
+abbrev pub HasSeenAll : List Step → List View → Type 0
+HasSeenAll history views = (j : ℕ) (v : View) → get_elem? views j ≡ some v → v.modes.watch ≡ true → v.seen ≡ history
+
+-- the pairs before the mode is per-CPU: no stamp was made, none has seen stamp 0, and the watchdog's seat holds it
+pub record IsQuiet (chain : ℕ → Chain) (views : List View) : Type 0 where
+  pub bare : (r : ℕ) → (chain r).after ≡ []
+  pub unknown : (j : ℕ) (v : View) → get_elem? views j ≡ some v → (r : ℕ) → (part_of v.pairs.parts r).zero ≡ None
+  pub cloned : (j : ℕ) (v : View) → get_elem? views j ≡ some v → v.modes.watch ≡ true → (r : ℕ) → Knows (chain r) (part_of v.modes.cloned r)
 
 pub record Kept (start : Start) (s : State Step View) : Type 0 where
   pub history : List Step
@@ -101,6 +117,8 @@ pub record Kept (start : Start) (s : State Step View) : Type 0 where
   -- while the mode is stable there are lifts alone, and once it is per-CPU every word was lifted
   pub lifts_first : percpu ≡ false → All (λ t. IsTrue (is_lift t.why)) history
   pub lifted : percpu ≡ true → AllLifted start history
+  pub whole : percpu ≡ false → HasSeenAll history s.views
+  pub quiet : percpu ≡ false → IsQuiet chain s.views
   pub clocks : HistoryPart start history made holder splitter s.words s.views
   pub pairs : PairPart start.cpus (opens_at start) chain writer s.words s.views
   pub modes : ModePart start percpu offset watcher s.words s.views

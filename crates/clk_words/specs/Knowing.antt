@@ -1,5 +1,5 @@
 -- What follows from a view alone.
-use Rattle.std.specs.Prelude.{◌≡◌, ℕ, ◌+◌, ◌<◌, ℤ, List, length, map, All, Contains, IsTrue}
+use Rattle.std.specs.Prelude.{◌≡◌, ℕ, ◌+◌, ◌*◌, ◌<◌, ℤ, false, List, length, map, All, Contains, IsTrue, is_some}
 use Rattle.clk_words.specs.declared.opening.Start.{Start}
 use Rattle.clk_words.specs.declared.kind.SeatKind.{SeatKind}
 use Rattle.clk_words.specs.declared.kind.SeatKind.TheVariants.{Owner, Reader, Watch}
@@ -11,7 +11,7 @@ use Rattle.clk_words.specs.declared.view.Load.{Load}
 use Rattle.clk_words.specs.declared.view.Name.{Name}
 use Rattle.clk_words.specs.declared.view.Name.TheVariants.{Clock, Gtod, Raw, Offset}
 use Rattle.clk_words.specs.Kinds.{cpu_of}
-use Rattle.clk_words.specs.Histories.{opens_at, IsGlobalHistory, steps_by, HadValue}
+use Rattle.clk_words.specs.Histories.{opens_at, IsGlobalHistory, steps_by, HadValue, has_lift}
 use Rattle.clk_words.specs.Bounds.{IsGtod, IsRaw, IsOffset, IsClock}
 use Rattle.clk_words.specs.Parts.{gtod_of, raw_of, part_of}
 use Rattle.clk_words.specs.Rights.{has_number, has_kind}
@@ -88,11 +88,23 @@ pub record HasAll (v : View) : Type 0 where
   pub first : 0 < v.made
   pub each : (n : ℕ) → n < v.made → IsTrue (has_number (numbers_of v) n)
 
+-- it has the watchdog's right, and the mode is stable by its view
+pub record MayDemote (v : View) : Type 0 where
+  pub watch : IsTrue v.modes.watch
+  pub stable : v.modes.found ≡ false
+
+-- it has stored a pair for each CPU, and lifted each word
+abbrev pub HasCloned : View → Type 0
+HasCloned v = (r : ℕ) → r < 2 * v.start.cpus → IsTrue (is_some (part_of v.modes.cloned r).zero)
+
+abbrev pub HasLifted : View → Type 0
+HasLifted v = (w : ℕ) → w < v.start.cpus → IsTrue (has_lift v.seen w)
+
 -- why a step may be made: the values that it names were loaded, the raw reading is in range, and it is no lift
 abbrev pub IsTrusted : View → Why → Type 0
 IsTrusted v (Raise raw tick_raw tick_gtod offset) =
     IsRaw (opens_at v.start) raw × HasLoaded v (Raw (cpu_of v.kind)) tick_raw × HasLoaded v (Gtod (cpu_of v.kind)) tick_gtod
-    × (offset ≡ v.start.opening.offset)
+    × HasLoaded v Offset offset
 IsTrusted v (Couple from value) = HasLoaded v (Clock from) value
 IsTrusted v (Lift value) = ⊥
 

@@ -31,13 +31,12 @@ pub record IsSeated (number : ℕ) (kind : SeatKind) (made : ℕ) (taken : List 
   pub watched : has_kind v.gives Watch ≡ true → v.modes.watch ≡ true
 
 -- the words of a table with this key
-pub record AreWords (cpus : ℕ) (tick opens offset : ℤ) (table : TableId) (start : Start) : Type 0 where
+pub record AreWords (cpus : ℕ) (tick opens : ℤ) (table : TableId) (start : Start) : Type 0 where
   pub words : table.words ≡ 3 * start.cpus + 2
   pub slots : table.slots ≡ 0
   pub cpus_is : cpus ≡ start.cpus
   pub tick_is : tick ≡ start.tick
   pub opens_is : opens ≡ opens_at start
-  pub offset_is : offset ≡ start.opening.offset
   pub some_cpu : 1 ≤ start.cpus
   pub small : start.cpus < 2 ^ 32
   pub tick_range : IsTick start.tick

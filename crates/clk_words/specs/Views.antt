@@ -19,15 +19,27 @@ abbrev pub is_percpu : Mode → Bool
 is_percpu Stable = false
 is_percpu PerCpu = true
 
+-- what the mode's word says
+abbrev pub mode_of : ℕ → Mode
+mode_of word = if nat_eq word 0 then Stable else PerCpu
+
 -- the pair of the opening, for each of n CPUs
 abbrev pub pairs_known : ℕ → Opening → List Part
 pairs_known zero o = []
 pairs_known (suc n) o = (record { zero = Some o.tick_gtod; after = [] }) ∷ (record { zero = Some o.tick_raw; after = [] }) ∷ pairs_known n o
 
 abbrev pub first_modes : Opening → ModeView
-first_modes o = record { looks = []; found = is_percpu o.mode; offset = if is_percpu o.mode then Some o.offset else None; watch = true }
+first_modes o = record {
+  looks = [];
+  found = is_percpu o.mode;
+  offset = if is_percpu o.mode then Some o.offset else None;
+  watch = true;
+  held = Some o.offset;
+  cloned = [];
+  told = [];
+}
 
--- the first seat: it has every right, and in a per-CPU start it knows each pair and the offset
+-- the first seat: it has every right, and in a per-CPU start alone it knows each pair and the offset
 abbrev pub first_view : Start → View
 first_view start = record {
   live = true;
@@ -45,13 +57,28 @@ first_view start = record {
   modes = first_modes start.opening;
 }
 
+-- the watchdog's right is given away with what is held by it
+abbrev pub giver_modes : Bool → ModeView → ModeView
+giver_modes gone m = record m { watch = m.watch && not gone; held = if gone then None else m.held; cloned = if gone then [] else m.cloned }
+
+abbrev pub given_modes : Bool → ModeView → ModeView
+given_modes gone m = record {
+  looks = [];
+  found = m.found;
+  offset = m.offset;
+  watch = gone;
+  held = if gone then m.held else None;
+  cloned = if gone then m.cloned else [];
+  told = [];
+}
+
 -- the seat that gave this kind
 abbrev pub giver_view : SeatKind → View → View
 giver_view kind v = record v {
   made = v.made + 1;
   gives = gives_without kind v.gives;
   pairs = record { parts = v.pairs.parts; owns = owns_without kind v.pairs.owns; told = v.pairs.told };
-  modes = record { looks = v.modes.looks; found = v.modes.found; offset = v.modes.offset; watch = v.modes.watch && not (is_watch kind) };
+  modes = giver_modes (is_watch kind) v.modes;
 }
 
 -- the new seat: it has seen what its mother has, has made and loaded nothing, and may not split
@@ -69,7 +96,7 @@ given_view kind v = record {
   pairs = record { parts = v.pairs.parts; owns = owned_by kind; told = [] };
   gives = [];
   told = [];
-  modes = record { looks = []; found = v.modes.found; offset = v.modes.offset; watch = is_watch kind };
+  modes = given_modes (is_watch kind) v.modes;
 }
 
 -- the steps that a seat has, each list with the number that it was made under
@@ -87,7 +114,15 @@ joint_pairs p q = record {
 }
 
 abbrev pub joint_modes : ModeView → ModeView → ModeView
-joint_modes m n = record { looks = m.looks; found = m.found || n.found; offset = either_zero m.offset n.offset; watch = m.watch || n.watch }
+joint_modes m n = record {
+  looks = m.looks;
+  found = m.found || n.found;
+  offset = either_zero m.offset n.offset;
+  watch = m.watch || n.watch;
+  held = if m.watch then m.held else n.held;
+  cloned = if m.watch then m.cloned else n.cloned;
+  told = m.offset ∷ n.offset ∷ [];
+}
 
 -- the right to split comes from the side that has it
 abbrev pub joint_made : ℕ → ℕ → ℕ
@@ -106,8 +141,11 @@ joint_view v w = record v {
 }
 
 -- what it was told is let go
+abbrev pub settled_modes : ModeView → ModeView
+settled_modes m = record m { told = [] }
+
 abbrev pub settled : View → View
-settled v = record v { told = []; pairs = record { parts = v.pairs.parts; owns = v.pairs.owns; told = [] } }
+settled v = record v { told = []; pairs = record { parts = v.pairs.parts; owns = v.pairs.owns; told = [] }; modes = settled_modes v.modes }
 
 abbrev pub together : View → View → View
 together v w = settled (joint_view v w)
@@ -127,5 +165,5 @@ spent_view = record {
   pairs = record { parts = []; owns = []; told = [] };
   gives = [];
   told = [];
-  modes = record { looks = []; found = false; offset = None; watch = false };
+  modes = record { looks = []; found = false; offset = None; watch = false; held = None; cloned = []; told = [] };
 }

@@ -1,3 +1,4 @@
+//! The words at the end, with their history.
 ghost use Rattle.std.specs.Prelude.{◌≡◌, ◌<◌};
 ghost use Rattle.clk_words.specs.Histories.{opens_at, value_after};
 

@@ -1,4 +1,4 @@
-// What the words keep of clock values: heights above the opening.
+//! What the words keep of clock values: heights above the opening.
 ghost use Rattle.std.specs.Prelude.{◌^◌, ◌<◌};
 ghost use Rattle.clk_num.specs.Biased.{IsWordOf};
 ghost use Rattle.clk_num.specs.Range.{IsNear};

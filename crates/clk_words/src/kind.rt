@@ -1,3 +1,4 @@
+//! The kinds of seats.
 /// What a seat is for.
 #[derive(Clone, Copy, PartialEq, Eq, Debug)]
 pub enum SeatKind {

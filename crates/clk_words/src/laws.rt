@@ -1,4 +1,5 @@
-ghost use Rattle.clk_words.specs.Laws.{WordsRise, HeldWasPut, StepsAreChains, EachFollows};
+//! Laws of histories and of what seats find, as functions that callers can cite.
+ghost use Rattle.clk_words.specs.Laws.{WordsRise, HeldWasPut, StepsAreChains, EachFollows, LiftedBefore, OffsetStays};
 
 /// As a history goes on, no clock word falls, by the sign of the difference. So a word that is loaded again does not hold
 /// a value below what it held before.
@@ -21,4 +22,16 @@ pub fn steps_are_chains()
 /// were there.
 pub fn each_follows()
     ensures { EachFollows }
+{}
+
+/// After a stable start each step that is no lift found its word not below what a lift of that word had left, by the sign
+/// of the difference. So every word was lifted before the first reading that is per-CPU.
+pub fn lifted_before()
+    ensures { LiftedBefore }
+{}
+
+/// The offset never changes once the mode is per-CPU: what a seat has found it finds again, and so does each seat that was
+/// split from it or joined with it.
+pub fn offset_stays()
+    ensures { OffsetStays }
 {}

@@ -10,6 +10,9 @@
 //! it to its target, and stands there once. What a seat has seen begins that history, and seats that meet have seen parts
 //! of the same one. A reader that is caught half-way through a stamp gets a GTOD that is not older than its raw value.
 //!
+//! While the mode is stable the watchdog alone writes, and only lifts stand in the history. It stores the offset and each
+//! CPU's pair, lifts every word, and then makes the mode per-CPU for good; from then on an owner writes its pair.
+//!
 //! It promises no order between seats that never meet, and no progress: a lost exchange is the caller's to try again.
 //!
 //! A clock word keeps the height of its value above the opening, so that the greater of two words is the later value; the
@@ -20,6 +23,7 @@
 #![tactic(auto)]
 
 mod closed;
+mod demotion;
 mod heights;
 mod kind;
 mod laws;
@@ -39,7 +43,9 @@ mod words;
 
 pub use closed::Closed;
 pub use kind::SeatKind;
-pub use laws::{each_follows, held_was_put, steps_are_chains, words_rise};
+pub use laws::{
+    each_follows, held_was_put, lifted_before, offset_stays, steps_are_chains, words_rise,
+};
 pub use opening::{Mode, Opening, Start};
 pub use seat::Seat;
 pub use step::{Put, Step, Why};

@@ -1,3 +1,4 @@
+//! What the words begin with.
 /// Whether one clock serves all CPUs, or each CPU has a word of its own: what Linux keeps in `__sched_clock_stable`.
 #[derive(Clone, Copy, PartialEq, Eq, Debug)]
 pub enum Mode {

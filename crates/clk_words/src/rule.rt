@@ -83,6 +83,24 @@ impl Play<Step, View> for RawLoad {
     ghost then = { LoadedRaw };
 }
 
+// A look at the mode.
+pub(crate) struct ModeLoad;
+
+impl Play<Step, View> for ModeLoad {
+    ghost use Rattle.clk_words.specs.Told.{LookedMode};
+
+    ghost then = { LookedMode };
+}
+
+// A load of the offset.
+pub(crate) struct OffsetLoad;
+
+impl Play<Step, View> for OffsetLoad {
+    ghost use Rattle.clk_words.specs.Told.{LoadedOffset};
+
+    ghost then = { LoadedOffset };
+}
+
 // The owner's store of a GTOD.
 pub(crate) struct GtodStore;
 
@@ -99,6 +117,61 @@ impl Play<Step, View> for RawStore {
     ghost use Rattle.clk_words.specs.Told.{StoredRaw};
 
     ghost then = { StoredRaw };
+}
+
+// The watchdog's store of the offset.
+pub(crate) struct OffsetStore;
+
+impl Play<Step, View> for OffsetStore {
+    ghost use Rattle.clk_words.specs.Told.{StoredOffset};
+
+    ghost then = { StoredOffset };
+}
+
+// The watchdog's store to a stamp word.
+pub(crate) struct PairStore;
+
+impl Play<Step, View> for PairStore {
+    ghost use Rattle.clk_words.specs.Told.{Cloned};
+
+    ghost then = { Cloned };
+}
+
+// The watchdog's store of the mode.
+pub(crate) struct ModeStore;
+
+impl Play<Step, View> for ModeStore {
+    ghost use Rattle.clk_words.specs.Told.{StoredMode};
+
+    ghost then = { StoredMode };
+}
+
+// What a lift is asked for.
+pub(crate) trait Opens {
+    ghost use Rattle.std.specs.Prelude.{ℕ, ℤ};
+
+    ghost call: { ℕ };
+
+    ghost value: { ℤ };
+}
+
+impl Opens for Brand {
+    ghost use Rattle.std.specs.Prelude.{pos};
+
+    ghost call = { 0 };
+
+    ghost value = { pos 0 };
+}
+
+// A lift of a clock word.
+pub(crate) struct Lifting<A> {
+    asked: PhantomData<A>,
+}
+
+impl<A: Opens> Play<Step, View> for Lifting<A> {
+    ghost use Rattle.clk_words.specs.Told.{Lifted};
+
+    ghost then = { Lifted A.call A.value };
 }
 
 // A join tells nothing of its own, so this load tells how what was kept stands to what each side had.

@@ -1,3 +1,4 @@
+//! A thread's place at the words.
 ghost use Rattle.std.specs.Prelude.{◌≡◌, ◌<◌};
 ghost use Rattle.clk_words.specs.Kinds.{cpu_of};
 

@@ -1,3 +1,4 @@
+//! Steps on clock words, and why they are made.
 /// Why a step wants its word where it wants it. All values are in ns and wrap at 64 bits.
 #[derive(Clone, Copy, PartialEq, Eq, Debug)]
 pub enum Why {

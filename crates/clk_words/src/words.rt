@@ -1,3 +1,4 @@
+//! The words: how they are made and how they end.
 ghost use Rattle.std.specs.Prelude.{◌≡◌, ◌≤◌, ◌++◌, replicate, IfOk, if◌then◌else◌};
 ghost use Rattle.clk_words.specs.Bounds.{IsOpening, IsTick};
 ghost use Rattle.clk_words.specs.Views.{is_percpu, first_view};
@@ -27,7 +28,6 @@ pub struct Words {
     pub(crate) cpus: u32,
     pub(crate) tick: i64,
     pub(crate) opens: i64,
-    pub(crate) offset: i64,
     pub(crate) table: Table<Step, View, Start, OneHistory, Global>,
 }
 
@@ -40,13 +40,14 @@ impl Model for Words {
 
     ghost view = { λ w. record { table = w.table.shared.table_id; start = w.table.shared.key } };
 
-    ghost invariant = { λ w. AreWords w.cpus w.tick w.opens w.offset w.table.shared.table_id w.table.shared.key };
+    ghost invariant = { λ w. AreWords w.cpus w.tick w.opens w.table.shared.table_id w.table.shared.key };
 }
 
 impl Words {
     /// The words of `cpus` CPUs, at least one, for ticks of `tick` ns, 1 to 2^30. Each clock word begins at
-    /// `tick_gtod + offset` of `start`, which wraps. The first seat has number 0, shows the kind `Reader(0)`, and holds
-    /// the right to split and to give every kind. The error is want of memory.
+    /// `tick_gtod + offset` of `start`, which wraps. The first seat has number 0, shows the kind `Reader(0)`, and holds the
+    /// right to split and to give every kind. In a stable start it has seen neither a pair nor the offset, which the watchdog
+    /// may change. The error is want of memory.
     pub fn new(
         alloc: Global,
         cpus: u32,
@@ -56,7 +57,6 @@ impl Words {
         requires cpus { 1 ≤ cpus }
         requires tick { IsTick tick }
         requires opening { IsOpening start }
-        requires mode { start.mode ≡ Mode.PerCpu }
         ensures start { IfOk result (λ made. made.0.start ≡ record { cpus = cpus; tick = tick; opening = start }) }
         ensures seat { IfOk result (λ made. made.1 ≡ record { table = made.0.table; view = first_view made.0.start }) }
     {
@@ -71,7 +71,6 @@ impl Words {
             cpus,
             tick,
             opens: start.tick_gtod.wrapping_add(start.offset),
-            offset: start.offset,
             table,
         };
         let seat = Seat {
@@ -95,7 +94,6 @@ impl Words {
             cpus,
             tick: _,
             opens,
-            offset: _,
             table,
         } = self;
         let last = Snapshot::of(&seat.at);

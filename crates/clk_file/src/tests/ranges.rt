@@ -1,8 +1,9 @@
 //! Changes of the file that is read, and the answers. A change that is only a key takes it out, and `;` stands between
 //! changes. A refusal is written with its row, its entry and its item.
 
-pub(crate) const TABLES: [&str; 10] = [
+pub(crate) const TABLES: [&str; 12] = [
     NUMBERS, REFERENCE, CPUS, READERS, DELAYS, BRING_UP, WATCHDOG, SOURCES, TICKETS, ORDER,
+    VERSIONS, REFUSALS,
 ];
 
 const NUMBERS: &str = "
@@ -160,4 +161,50 @@ source = [{ tsc = true, rating = 1, margin = 0 }, { tsc = true, rating = 0, marg
 source = [{ tsc = true, rating = 0, margin = -1 }] => value 38 1 0
 source = [{ rating = 1, margin = -1, nominal_khz = 0 }] => value 39 1 0
 cpu = [{ script = ['pause 16777216'] }];source = [{ tsc = true, rating = 0, margin = 0 }] => value 38 1 0
+";
+
+// The ranges that version 2 has or changes, beside those of version 1.
+const VERSIONS: &str = "
+version = 2;cpus = 0 => value 2 0 0
+version = 2;cpus = 65 => value 2 0 0
+version = 2;cpus = 64 => value 13 0 0
+version = 2;cpus = 17 => value 13 0 0
+version = 2;base = 9223372036854775807 => read
+version = 2;base = -9223372036854775808 => read
+version = 2;cpu = [{ socket = -1 }] => value 45 1 0
+version = 2;cpu = [{ socket = 63 }] => read
+version = 2;cpus = 2;cpu = [{}, { socket = 64 }] => value 45 2 0
+version = 2;bringup = { adjust = true, timeout_us = 0, first_us = -1, turns = 0 } => value 46 0 0
+version = 2;bringup = { adjust = true, timeout_us = 0, first_us = 1000000, turns = 0 } => read
+version = 2;bringup = { adjust = true, timeout_us = 0, first_us = 1000001, turns = 0 } => value 46 0 0
+version = 2;bringup = { adjust = true, timeout_us = 1000001, turns = 0 } => value 28 0 0
+version = 2;delay = [{ ticket = 16777216, ns = 0 }] => read
+version = 2;delay = [{ ticket = 67108863, ns = 0 }] => read
+version = 2;delay = [{ ticket = 67108864, ns = 0 }] => value 24 1 0
+version = 2;cpu = [{ script = ['pause 16777214'] }] => read
+version = 2;cpu = [{ script = ['pause 16777217'] }] => value 18 1 1
+version = 2;cpu = [{ script = ['pause 16777216', 'pause 16777216', 'pause 16777216', 'pause 16777213'] }] => read
+version = 2;cpu = [{ script = ['pause 16777216', 'pause 16777216', 'pause 16777216', 'pause 16777214'] }] => tickets 67108865
+version = 2;cpu = [{ offset = 99999999999999, socket = 64 }] => value 15 1 0
+version = 2;cpu = [{ socket = 64, jumps = [[-1, 0]] }] => value 45 1 0
+version = 2;bringup = { adjust = true, timeout_us = -1, first_us = -1, turns = -1 } => value 28 0 0
+version = 2;bringup = { adjust = true, timeout_us = 0, first_us = -1, turns = -1 } => value 46 0 0
+version = 2;step = 0;cpu = [{ socket = 64 }] => value 3 0 0
+";
+
+// One refusal of each code, in both versions.
+const REFUSALS: &str = "
+cpus => key 2 0 0
+version = 2;cpus => key 2 0 0
+step = 0 => value 3 0 0
+version = 2;step = 0 => value 3 0 0
+cpu = [{ script = ['local', 'locl'] }] => word 18 1 2
+version = 2;cpu = [{ script = ['local', 'locl'] }] => word 18 1 2
+cpus = 2;cpu = [{ script = ['remote 9'] }, {}] => cpu 18 1 1
+version = 2;cpus = 2;cpu = [{ script = ['remote 9'] }, {}] => cpu 18 1 1
+cpu = [{ script = ['pause 16777214'] }] => tickets 16777217
+step = 0;colour = 1 => key 100 0 0
+version = 2;step = 0;colour = 1 => key 100 0 0
+version = 2;step = 0;base = 0 => value 3 0 0
+step = 0;base = 0 => key 100 0 0
 ";

@@ -1,9 +1,9 @@
 //! Changes of the file that is read, and the answers. A change that is only a key takes it out, and `;` stands between
 //! changes. A refusal is written with its row, its entry and its item.
 
-pub(crate) const TABLES: [&str; 12] = [
+pub(crate) const TABLES: [&str; 13] = [
     NUMBERS, VERSION, REFERENCE, CPUS, WORDS, READERS, DELAYS, BRING_UP, WATCHDOG, SOURCES, WHOLE,
-    ORDER,
+    ORDER, VERSIONS,
 ];
 
 const NUMBERS: &str = "
@@ -25,7 +25,8 @@ stable = true => read
 
 const VERSION: &str = "
 version = 0 => value 1 0 0
-version = 2 => value 1 0 0
+version = 2 => read
+version = 3 => value 1 0 0
 version = -1 => value 1 0 0
 ";
 
@@ -181,6 +182,7 @@ source = [{ tsc = true, rating = 1, margin = 0, jumps = [] }] => key 135 1 0
 ";
 
 const WHOLE: &str = "
+version;cpus;step;nominal_khz;stable;reference;cpu => key 1 0 0
 colour = 1 => key 100 0 0
 step = => not toml
 step = 9223372036854775808 => not toml
@@ -192,8 +194,8 @@ const ORDER: &str = "
 colour = 1;step = 0 => key 100 0 0
 colour = 1;version => key 100 0 0
 version;cpus => key 1 0 0
-version = 2;source = [{}] => key 38 1 0
-version = 2;step = 0 => value 1 0 0
+version = 3;source = [{}] => key 38 1 0
+version = 3;step = 0 => value 1 0 0
 cpus = '1';step => value 2 0 0
 reference = { name = 'a' } => key 108 0 0
 reference = {};cpu => key 9 0 0
@@ -220,4 +222,48 @@ source = [{ tsc = 1, name = 1 }] => value 37 1 0
 source = [{ name = 1, rating = '1' }] => value 36 1 0
 step = 0;source = [{ tsc = 1 }] => value 37 1 0
 cpu = [{ script = ['pause 0', 'locl'] }] => word 18 1 2
+";
+
+// The keys of version 2, in both versions, and where they stand among the others.
+const VERSIONS: &str = "
+base = 9223372036854775782 => key 100 0 0
+base = '0' => key 100 0 0
+version = 2;base = 9223372036854775782 => read
+version = 2;base = '0' => value 44 0 0
+version = '2';base = 0 => key 100 0 0
+version = 3;base = 0 => key 100 0 0
+version;base = 0 => key 100 0 0
+version = 2;colour = 1 => key 100 0 0
+version = 2;socket = 0 => key 100 0 0
+cpu = [{ socket = 0 }] => key 113 1 0
+version = 2;cpu = [{ socket = 0 }] => read
+version = 2;cpu = [{ socket = false }] => value 45 1 0
+version = 2;cpu = [{ socket = 0, speed = 1 }] => key 113 1 0
+version = 2;cpus = 2;cpu = [{}, { socket = '0' }] => value 45 2 0
+version = 2;cpu = [{ first_us = 0 }] => key 113 1 0
+bringup = { adjust = true, timeout_us = 0, first_us = 0, turns = 0 } => key 126 0 0
+version = 2;bringup = { adjust = true, timeout_us = 0, first_us = 0, turns = 0 } => read
+version = 2;bringup = { adjust = true, timeout_us = 0, first_us = 0.0, turns = 0 } => value 46 0 0
+version = 2;bringup = { adjust = true, timeout_us = 0, turns = 0 } => read
+version = 2;stable = 0;base = '0' => value 7 0 0
+version = 2;base = '0';reference = 1 => value 44 0 0
+version = 2;base = '0';cpu = [{ speed = 1 }] => value 44 0 0
+version = 2;cpu = [{ offset = '0', socket = '0' }] => value 15 1 0
+version = 2;cpu = [{ socket = '0', jumps = 1 }] => value 45 1 0
+version = 2;bringup = { adjust = true, timeout_us = '0', first_us = '0' } => value 28 0 0
+version = 2;bringup = { adjust = true, first_us = '0' } => key 28 0 0
+version = 2;bringup = { adjust = true, timeout_us = 0, first_us = '0' } => value 46 0 0
+version = 2;step = 0;bringup = { adjust = true, timeout_us = 0, turns = 0, first_us = '0' } => value 46 0 0
+";
+
+// Changes of the file with headers.
+pub(crate) const HEADERS: &str = "
+ => read
+offset = 0.5 => value 15 1 0
+[[ cpu ]] => value 13 0 0
+[[ reader ]];cpu = 0;[[ reader ]] => key 20 2 0
+[[ source ]];tsc = true;bits = 64 => key 135 1 0
+[ bringup ];adjust = 1 => value 27 0 0
+[ watchdog.checks ] => value 31 0 0
+[[ delay ]];ticket = 3;ns = 5 => read
 ";

@@ -1,7 +1,9 @@
 //! One CPU at 1 GHz, whose tickets are 10 ns apart, and the context of a thread on it.
-ghost use Rattle.std.specs.Prelude.{◌≡◌, ◌+◌, ◌^◌, ◌<◌, ◌≤◌, [], ◌∷◌, ◌++◌, IfOk};
-ghost use Rattle.clk_num.specs.Range.{IsFrom0To};
+ghost use Rattle.std.specs.Prelude.{◌≡◌, ◌+◌, ◌^◌, ◌<◌, ◌≤◌, pos, ◌+ℤ◌, [], ◌∷◌, ◌++◌, IfOk};
+ghost use Rattle.clk_num.specs.Range.{IsNear, IsFrom0To};
+ghost use Rattle.clk_num.specs.Wrapping.{wrap};
 ghost use Rattle.clk_ticket.specs.Time.{share_of, fresh, without};
+ghost use Rattle.clk_machine.specs.Limits.{most_tickets};
 ghost use Rattle.clk_machine.specs.Plan.{plan_of, cpu_count};
 ghost use Rattle.clk_machine.specs.Records.{record_zero, above_base};
 ghost use Rattle.clk_machine.specs.Short.{IsWellFormed};
@@ -9,7 +11,7 @@ ghost use Rattle.clk_latch.specs.Calls.{IsRecordZero};
 ghost use Rattle.clk_words.specs.Held.{place_of};
 ghost use Rattle.clk_words.specs.Histories.{opens_at};
 ghost use Rattle.clk_words.specs.Kinds.{cpu_of};
-ghost use Rattle.clk_words.specs.Knowing.{HasFoundPerCpu, IsReading, MaySplit, numbers_of};
+ghost use Rattle.clk_words.specs.Knowing.{IsReading, MaySplit, MayDemote, numbers_of};
 ghost use Rattle.clk_words.specs.Views.{first_view, giver_view, given_view};
 ghost use Rattle.clk_local.specs.Context.{BeginsAtBase, IsUsable};
 
@@ -22,13 +24,7 @@ use clk_num::List;
 use clk_ticket::{TicketTable, TimeSeat};
 use clk_words::{Closed, Mode, Opening, Seat, SeatKind, Step, Why, Words};
 use std::alloc::{AllocError, Global};
-
-pub const OPENING: Opening = Opening {
-    mode: Mode::PerCpu,
-    offset: 10,
-    tick_gtod: 10,
-    tick_raw: 20,
-};
+use std::process::Abort;
 
 // A list of none.
 fn none<T>(alloc: Global) -> Result<List<T>, AllocError>
@@ -37,8 +33,10 @@ fn none<T>(alloc: Global) -> Result<List<T>, AllocError>
     List::with_room(alloc, 0)
 }
 
-pub fn parts(alloc: Global) -> Result<Parts, AllocError>
-    ensures { IfOk result (λ p. IsWellFormed (plan_of p)) }
+fn parts(alloc: Global) -> Result<Parts, AllocError>
+    ensures form { IfOk result (λ p. IsWellFormed (plan_of p)) }
+    ensures cpus { IfOk result (λ p. cpu_count (plan_of p) ≡ 1) }
+    ensures base { IfOk result (λ p. p.base ≡ pos 0) }
 {
     let script = Script {
         repeat: 1,
@@ -48,10 +46,13 @@ pub fn parts(alloc: Global) -> Result<Parts, AllocError>
     cpu.push(CpuPart {
         khz: 1_000_000,
         offset: 0,
+        socket: 0,
         jumps: none(alloc)?,
         script,
     });
     Ok(Parts {
+        version: 1,
+        base: 0,
         cpus: 1,
         step: 10,
         tick: 1_000_000,
@@ -73,8 +74,15 @@ pub fn parts(alloc: Global) -> Result<Parts, AllocError>
     })
 }
 
+/// The machine, whose clocks begin at 0.
+pub fn machine(rt: &impl Abort, alloc: Global) -> Result<Machine, AllocError>
+    ensures cpus { IfOk result (λ m. cpu_count m ≡ 1) }
+    ensures base { IfOk result (λ m. m.base ≡ pos 0) }
+{
+    Ok(Machine::new(parts(alloc)?).expect(rt, "a machine"))
+}
+
 // Record 0, whose ticket the test draws.
-#[tactic(auto, unfolding(clk_machine::specs::Records::base_of))]
 pub fn zero_of(machine: &Machine) -> Published
     requires { 0 < cpu_count machine.now }
     ensures zero { result ≡ record_zero machine.now }
@@ -86,13 +94,13 @@ pub fn zero_of(machine: &Machine) -> Published
         rec: 0,
         ticket: 0,
         cyc: machine.counter(0, 0, 0),
-        ns: 0,
+        ns: machine.base(),
     }
 }
 
 // A reading by record 0, whose counter and ns are ten times the ticket.
 pub fn reading(ticket: u64) -> RawReading
-    requires { ticket < 2 ^ 24 }
+    requires { ticket < most_tickets }
 {
     RawReading {
         ticket,
@@ -115,11 +123,15 @@ pub fn step(call: u32, why: Why, old: i64, new: i64) -> Step {
 }
 
 pub fn raise(raw: i64, tick_raw: i64, tick_gtod: i64) -> Why {
+    raise_with(raw, tick_raw, tick_gtod, 10)
+}
+
+pub fn raise_with(raw: i64, tick_raw: i64, tick_gtod: i64, offset: i64) -> Why {
     Why::Raise {
         raw,
         tick_raw,
         tick_gtod,
-        offset: 10,
+        offset,
     }
 }
 
@@ -140,12 +152,19 @@ pub struct Own {
     pub time: TimeSeat,
 }
 
-// All objects over a machine of one CPU, and the first seats. Tickets 0 to 2 are drawn, for the epoch and the boot stamp.
-pub fn stand(alloc: Global, machine: Machine, total: u64) -> Result<(Shared, Own), AllocError>
+// All objects over a machine of one CPU, and the first seats. The words open at 20, and tickets 0 to 2 are drawn, for the
+// epoch and the boot stamp.
+pub fn stand(
+    alloc: Global,
+    machine: Machine,
+    mode: Mode,
+    total: u64,
+) -> Result<(Shared, Own), AllocError>
     requires cpus { cpu_count machine ≡ 1 }
-    requires total { (3 ≤ total) × (total ≤ 2 ^ 24) }
+    requires base { machine.base ≡ pos 0 }
+    requires total { (3 ≤ total) × (total ≤ most_tickets) }
     ensures machine { IfOk result (λ made. made.0.machine ≡ machine) }
-    ensures words { IfOk result (λ made. made.0.words.start ≡ record { cpus = 1; tick = machine.tick; opening = OPENING }) }
+    ensures words { IfOk result (λ made. made.0.words.start ≡ record { cpus = 1; tick = machine.tick; opening = record { mode = mode; offset = pos 10; tick_gtod = pos 10; tick_raw = pos 20 } }) }
     ensures seat { IfOk result (λ made. made.1.seat ≡ record { table = made.0.words.table; view = first_view made.0.words.start }) }
     ensures made { IfOk result (λ made. made.1.seat.view.made ≡ 1) }
     ensures opening { IfOk result (λ made. IsFrom0To (2 ^ 57) (above_base machine (opens_at made.0.words.start))) }
@@ -154,7 +173,13 @@ pub fn stand(alloc: Global, machine: Machine, total: u64) -> Result<(Shared, Own
     ensures tickets { IfOk result (λ made. (made.1.time.table ≡ made.0.tickets.table) × (made.1.time.left + 3 ≡ total)) }
     ensures share { IfOk result (λ made. share_of made.1.time ≡ made.0.tickets.total) }
 {
-    let (words, seat) = Words::new(alloc, 1, machine.tick(), OPENING)?;
+    let start = Opening {
+        mode,
+        offset: 10,
+        tick_gtod: 10,
+        tick_raw: 20,
+    };
+    let (words, seat) = Words::new(alloc, 1, machine.tick(), start)?;
     let (latch, latch_seat) = Latch::new(alloc, zero_of(&machine), 0)?;
     let (tickets, mut time) = TicketTable::new(alloc, total)?;
     tickets.draw(&mut time, 3);
@@ -199,10 +224,9 @@ pub fn hire(shared: &Shared, first: &mut Own, kind: SeatKind, left: u64) -> Own
 }
 
 // The context of a thread.
-pub fn context<'a>(shared: &'a Shared, own: Own) -> Ctx<'a, Latch>
+pub fn context<'a>(shared: &'a Shared, own: Own, sched_offset: i64) -> Ctx<'a, Latch>
     requires own { place_of own.seat ≡ shared.now.words }
     requires reading { IsReading own.seat.view.kind }
-    requires found { HasFoundPerCpu own.seat.view }
     requires cpu { cpu_of own.seat.view.kind ≡ 0 }
     requires cpus { shared.now.words.start.cpus ≡ 1 }
     requires machine { cpu_count shared.now.machine ≡ 1 }
@@ -211,6 +235,7 @@ pub fn context<'a>(shared: &'a Shared, own: Own) -> Ctx<'a, Latch>
     requires latch { own.latch_seat.latch ≡ shared.now.latch }
     requires base { BeginsAtBase shared.now.machine own.latch_seat.epoch }
     requires table { own.time.table ≡ shared.now.tickets.table }
+    requires sched_offset { IsNear 59 sched_offset }
     ensures usable { IsUsable ⟦<Latch as Epochs>⟧.fits ⟦<Latch as Epochs>⟧.epoch result }
     ensures words { result.words.now ≡ shared.now.words }
     ensures latch { result.epochs.now ≡ shared.now.latch }
@@ -231,7 +256,7 @@ pub fn context<'a>(shared: &'a Shared, own: Own) -> Ctx<'a, Latch>
         tickets: &shared.tickets,
         time: own.time,
         counter,
-        sched_offset: 0,
+        sched_offset,
         call: 0,
     }
 }
@@ -257,6 +282,25 @@ pub fn seats_of(ctx: Ctx<'_, Latch>) -> Own
         latch_seat,
         time,
     }
+}
+
+// What a watchdog does to end the stable mode, on the one CPU: the pair is 30 and 30, and 7 is added from then on.
+pub fn demote(shared: &Shared, own: &mut Own)
+    requires own { place_of own.old.seat ≡ shared.now.words }
+    requires may { MayDemote own.old.seat.view }
+    requires cpus { shared.now.words.start.cpus ≡ 1 }
+    requires opening { opens_at shared.now.words.start ≡ wrap (pos 10 +ℤ pos 10) }
+    ensures own { place_of own.new.seat ≡ shared.now.words }
+    ensures numbers { numbers_of own.new.seat.view ≡ numbers_of own.old.seat.view }
+    ensures made { own.new.seat.view.made ≡ own.old.seat.view.made }
+    ensures latch { own.new.latch_seat ≡ own.old.latch_seat }
+    ensures time { own.new.time ≡ own.old.time }
+{
+    shared.words.publish_offset(&mut own.seat, 7);
+    shared.words.clone_gtod(&mut own.seat, 0, 30);
+    shared.words.clone_raw(&mut own.seat, 0, 30);
+    shared.words.lift(&mut own.seat, 0, 0, 37);
+    shared.words.publish_mode(&mut own.seat);
 }
 
 // The seats of two threads as one. The first may split.

@@ -1,20 +1,19 @@
 //! One call after another, on one thread.
 use crate::tests::fixtures::{
-    context, end_two, hire, meet, parts, raise, reading, seats_of, stand, step,
+    context, demote, end_two, hire, machine, meet, raise, raise_with, reading, seats_of, stand,
+    step,
 };
 use crate::{IdleEvent, Reading, TickEvent, idle, local, local_raised, tick};
-use clk_machine::Machine;
-use clk_words::SeatKind;
+use clk_words::{Mode, SeatKind};
 use std::test::Fail;
 
 #[test]
 fn a_reading_and_a_tick(rt: HostRuntime) -> Result<(), Fail> {
     let alloc = rt.alloc();
-    let machine = Machine::new(parts(alloc)?).expect(&rt, "a machine");
-    assert_eq!(rt; machine.cpus(), 1);
-    let (shared, mut first) = stand(alloc, machine, 200_008)?;
+    let machine = machine(&rt, alloc)?;
+    let (shared, mut first) = stand(alloc, machine, Mode::PerCpu, 200_008)?;
     let own = hire(&shared, &mut first, SeatKind::Owner(0), 200_005);
-    let mut ctx = context(&shared, own);
+    let mut ctx = context(&shared, own, 0);
     let read = local(&mut ctx);
     assert_eq!(rt;
         read,
@@ -54,11 +53,10 @@ fn a_reading_and_a_tick(rt: HostRuntime) -> Result<(), Fail> {
 #[test]
 fn an_idle_event(rt: HostRuntime) -> Result<(), Fail> {
     let alloc = rt.alloc();
-    let machine = Machine::new(parts(alloc)?).expect(&rt, "a machine");
-    assert_eq!(rt; machine.cpus(), 1);
-    let (shared, mut first) = stand(alloc, machine, 7)?;
+    let machine = machine(&rt, alloc)?;
+    let (shared, mut first) = stand(alloc, machine, Mode::PerCpu, 7)?;
     let own = hire(&shared, &mut first, SeatKind::Owner(0), 4);
-    let mut ctx = context(&shared, own);
+    let mut ctx = context(&shared, own, 0);
     let event = idle(&mut ctx);
     assert_eq!(rt;
         event,
@@ -79,5 +77,48 @@ fn an_idle_event(rt: HostRuntime) -> Result<(), Fail> {
     let whole = meet(&shared, first, seats_of(ctx));
     let (closed, drawn) = end_two(shared, whole);
     assert_eq!(rt; (closed.last(0), drawn), (60, 7));
+    Ok(())
+}
+
+#[test]
+fn a_stable_start_and_a_demotion(rt: HostRuntime) -> Result<(), Fail> {
+    let alloc = rt.alloc();
+    let machine = machine(&rt, alloc)?;
+    let (shared, mut first) = stand(alloc, machine, Mode::Stable, 11)?;
+    let own = hire(&shared, &mut first, SeatKind::Owner(0), 8);
+    let mut ctx = context(&shared, own, 12);
+    let read = local(&mut ctx);
+    assert_eq!(rt;
+        read,
+        Reading::Stable {
+            raw: reading(3),
+            value: 42,
+        }
+    );
+    let ticked = tick(&mut ctx);
+    assert_eq!(rt; ticked, TickEvent::Nothing);
+    demote(&shared, &mut first);
+    let read = local(&mut ctx);
+    assert_eq!(rt;
+        read,
+        Reading::PerCpu {
+            raw: reading(4),
+            step: step(0, raise_with(40, 30, 30, 7), 37, 47),
+        }
+    );
+    let ticked = tick(&mut ctx);
+    assert_eq!(rt;
+        ticked,
+        TickEvent::Ticked {
+            gtod_ticket: 5,
+            gtod: 50,
+            stamp: reading(6),
+            raw: reading(7),
+            step: step(0, raise_with(70, 60, 50, 7), 47, 67),
+        }
+    );
+    let whole = meet(&shared, first, seats_of(ctx));
+    let (closed, drawn) = end_two(shared, whole);
+    assert_eq!(rt; (closed.last(0), drawn), (67, 8));
     Ok(())
 }

@@ -4,18 +4,18 @@ ghost use Rattle.clk_num.specs.Range.{IsFrom0To};
 ghost use Rattle.clk_ticket.specs.Time.{share_of};
 ghost use Rattle.clk_machine.specs.Plan.{cpu_count};
 ghost use Rattle.clk_machine.specs.Records.{above_base};
-ghost use Rattle.clk_words.specs.Calls.{KeepsSeat};
 ghost use Rattle.clk_words.specs.Held.{place_of};
 ghost use Rattle.clk_words.specs.Histories.{opens_at};
 ghost use Rattle.clk_words.specs.Kinds.{cpu_of};
 ghost use Rattle.clk_words.specs.Knowing.{HasFoundPerCpu, IsReading, numbers_of};
 ghost use Rattle.clk_local.specs.Context.{BeginsAtBase, IsUsable, MayStamp, Spends};
 
-use crate::tests::fixtures::{Own, Shared, context, end_three, hire, meet, parts, seats_of, stand};
-use crate::{Ctx, Reading, TickEvent, idle, local_raised};
+use crate::tests::fixtures::{
+    Own, Shared, context, end_three, hire, machine, meet, seats_of, stand,
+};
+use crate::{Ctx, IdleEvent, Reading, TickEvent, idle, local_raised};
 use clk_latch::{Epochs, Latch};
-use clk_machine::Machine;
-use clk_words::{Closed, SeatKind, Step};
+use clk_words::{Closed, Mode, SeatKind, Step};
 use std::alloc::{AllocError, Global};
 use std::test::Fail;
 use std::thread::{Threads, join};
@@ -46,21 +46,7 @@ fn note(log: &mut Vec<Step>, step: Step) {
     let _ = log.push(step);
 }
 
-// An idle event, which makes two steps.
-fn wake(ctx: &mut Ctx<'_, Latch>, call: u32, log: &mut Vec<Step>)
-    requires usable { IsUsable ⟦<Latch as Epochs>⟧.fits ⟦<Latch as Epochs>⟧.epoch ctx.old }
-    requires stamp { MayStamp ctx.old.seat.view }
-    requires tickets { 4 ≤ ctx.old.time.left }
-    ensures usable { IsUsable ⟦<Latch as Epochs>⟧.fits ⟦<Latch as Epochs>⟧.epoch ctx.new }
-    ensures stamp { MayStamp ctx.new.seat.view }
-    ensures words { ctx.new.words.now ≡ ctx.old.words.now }
-    ensures latch { ctx.new.epochs.now ≡ ctx.old.epochs.now }
-    ensures tickets { ctx.new.tickets.now ≡ ctx.old.tickets.now }
-    ensures kept { KeepsSeat ctx.old.seat.view ctx.new.seat.view }
-    ensures spends { Spends 4 ctx.old.time ctx.new.time }
-{
-    ctx.call = call;
-    let event = idle(ctx);
+fn note_event(log: &mut Vec<Step>, event: IdleEvent) {
     if let Reading::PerCpu { step, .. } = event.read {
         note(log, step);
     }
@@ -69,15 +55,38 @@ fn wake(ctx: &mut Ctx<'_, Latch>, call: u32, log: &mut Vec<Step>)
     }
 }
 
-// A reading, which makes one.
-fn look(ctx: &mut Ctx<'_, Latch>, call: u32, log: &mut Vec<Step>)
+// An idle event, which makes two steps.
+fn wake(ctx: &mut Ctx<'_, Latch>, call: u32, log: &mut Vec<Step>)
     requires usable { IsUsable ⟦<Latch as Epochs>⟧.fits ⟦<Latch as Epochs>⟧.epoch ctx.old }
-    requires tickets { 1 ≤ ctx.old.time.left }
+    requires found { HasFoundPerCpu ctx.old.seat.view }
+    requires stamp { MayStamp ctx.old.seat.view }
+    requires tickets { 4 ≤ ctx.old.time.left }
     ensures usable { IsUsable ⟦<Latch as Epochs>⟧.fits ⟦<Latch as Epochs>⟧.epoch ctx.new }
+    ensures found { HasFoundPerCpu ctx.new.seat.view }
+    ensures stamp { MayStamp ctx.new.seat.view }
     ensures words { ctx.new.words.now ≡ ctx.old.words.now }
     ensures latch { ctx.new.epochs.now ≡ ctx.old.epochs.now }
     ensures tickets { ctx.new.tickets.now ≡ ctx.old.tickets.now }
-    ensures kept { KeepsSeat ctx.old.seat.view ctx.new.seat.view }
+    ensures numbers { numbers_of ctx.new.seat.view ≡ numbers_of ctx.old.seat.view }
+    ensures made { ctx.new.seat.view.made ≡ ctx.old.seat.view.made }
+    ensures spends { Spends 4 ctx.old.time ctx.new.time }
+{
+    ctx.call = call;
+    note_event(log, idle(ctx));
+}
+
+// A reading, which makes one.
+fn look(ctx: &mut Ctx<'_, Latch>, call: u32, log: &mut Vec<Step>)
+    requires usable { IsUsable ⟦<Latch as Epochs>⟧.fits ⟦<Latch as Epochs>⟧.epoch ctx.old }
+    requires found { HasFoundPerCpu ctx.old.seat.view }
+    requires tickets { 1 ≤ ctx.old.time.left }
+    ensures usable { IsUsable ⟦<Latch as Epochs>⟧.fits ⟦<Latch as Epochs>⟧.epoch ctx.new }
+    ensures found { HasFoundPerCpu ctx.new.seat.view }
+    ensures words { ctx.new.words.now ≡ ctx.old.words.now }
+    ensures latch { ctx.new.epochs.now ≡ ctx.old.epochs.now }
+    ensures tickets { ctx.new.tickets.now ≡ ctx.old.tickets.now }
+    ensures numbers { numbers_of ctx.new.seat.view ≡ numbers_of ctx.old.seat.view }
+    ensures made { ctx.new.seat.view.made ≡ ctx.old.seat.view.made }
     ensures spends { Spends 1 ctx.old.time ctx.new.time }
 {
     ctx.call = call;
@@ -88,7 +97,6 @@ fn look(ctx: &mut Ctx<'_, Latch>, call: u32, log: &mut Vec<Step>)
 fn run_owner(shared: &Shared, runner: Runner) -> Runner
     requires own { place_of runner.own.seat ≡ shared.now.words }
     requires reading { IsReading runner.own.seat.view.kind }
-    requires found { HasFoundPerCpu runner.own.seat.view }
     requires cpu { cpu_of runner.own.seat.view.kind ≡ 0 }
     requires cpus { (shared.now.words.start.cpus ≡ 1) × (cpu_count shared.now.machine ≡ 1) }
     requires tick { shared.now.words.start.tick ≡ shared.now.machine.tick }
@@ -96,6 +104,7 @@ fn run_owner(shared: &Shared, runner: Runner) -> Runner
     requires latch { runner.own.latch_seat.latch ≡ shared.now.latch }
     requires base { BeginsAtBase shared.now.machine runner.own.latch_seat.epoch }
     requires table { runner.own.time.table ≡ shared.now.tickets.table }
+    requires found { HasFoundPerCpu runner.own.seat.view }
     requires stamp { MayStamp runner.own.seat.view }
     requires left { runner.own.time.left ≡ OWNERS }
     ensures own { place_of result.own.seat ≡ shared.now.words }
@@ -106,7 +115,7 @@ fn run_owner(shared: &Shared, runner: Runner) -> Runner
     ensures share { share_of result.own.time ≡ share_of runner.own.time }
 {
     let Runner { own, mut log } = runner;
-    let mut ctx = context(shared, own);
+    let mut ctx = context(shared, own, 0);
     for call in 0..CALLS {
         wake(&mut ctx, call, &mut log);
     }
@@ -134,7 +143,7 @@ fn run_reader(shared: &Shared, runner: Runner) -> Runner
     ensures share { share_of result.own.time ≡ share_of runner.own.time }
 {
     let Runner { own, mut log } = runner;
-    let mut ctx = context(shared, own);
+    let mut ctx = context(shared, own, 0);
     for call in 0..CALLS {
         look(&mut ctx, call, &mut log);
     }
@@ -187,9 +196,8 @@ fn are_a_chain(closed: &Closed, mut steps: Vec<Step>) -> bool
 #[test]
 fn an_owner_and_a_reader(rt: HostRuntime) -> Result<(), Fail> {
     let alloc = rt.alloc();
-    let machine = Machine::new(parts(alloc)?).expect(&rt, "a machine");
-    assert_eq!(rt; machine.cpus(), 1);
-    let (shared, mut first) = stand(alloc, machine, 50_003)?;
+    let machine = machine(&rt, alloc)?;
+    let (shared, mut first) = stand(alloc, machine, Mode::PerCpu, 50_003)?;
     let a = hired(alloc, hire(&shared, &mut first, SeatKind::Owner(0), OWNERS))?;
     let b = hired(
         alloc,

@@ -22,8 +22,18 @@ pub fn opening(tick_gtod: i64, offset: i64) -> Opening
     ensures mode { result.mode ≡ Mode.PerCpu }
     ensures raw { result.tick_raw ≡ opens_of result }
 {
+    opening_in(Mode::PerCpu, tick_gtod, offset)
+}
+
+pub fn opening_in(mode: Mode, tick_gtod: i64, offset: i64) -> Opening
+    requires { IsGtod tick_gtod }
+    ensures opening { IsOpening result }
+    ensures mode { result.mode ≡ mode }
+    ensures raw { result.tick_raw ≡ opens_of result }
+    ensures offset { result.offset ≡ offset }
+{
     Opening {
-        mode: Mode::PerCpu,
+        mode,
         offset,
         tick_gtod,
         tick_raw: tick_gtod.wrapping_add(offset),

@@ -54,12 +54,12 @@ fn first_clock(words: &Words, seat: &mut Seat, w: u32) -> i64
 
 // A thread's seat, whether it stamps, the other CPU, what the words opened with, and the steps that it has made.
 #[derive(Drop)]
-struct Runner {
-    seat: Seat,
-    stamps: bool,
-    other: u32,
-    start: Opening,
-    log: Vec<Step>,
+pub struct Runner {
+    pub seat: Seat,
+    pub stamps: bool,
+    pub other: u32,
+    pub start: Opening,
+    pub log: Vec<Step>,
 }
 
 // A stamp if the seat is an owner's.
@@ -79,7 +79,7 @@ fn stamp_if(words: &Words, seat: &mut Seat, stamps: bool, gtod: i64, raw: i64)
 }
 
 // There is room for each step.
-fn note(log: &mut Vec<Step>, step: Step) {
+pub fn note(log: &mut Vec<Step>, step: Step) {
     let _ = log.push(step);
 }
 
@@ -124,7 +124,7 @@ fn two<R: Threads + Sync>(rt: &R, words: &Words, a: Runner, b: Runner) -> (Runne
     join(rt, move || run(words, a), move || run(words, b))
 }
 
-fn hired(
+pub fn hired(
     alloc: Global,
     words: &Words,
     first: &mut Seat,
@@ -153,7 +153,7 @@ fn hired(
 }
 
 // On each word the steps, sorted, go from its opening to its last value.
-fn are_chains(closed: &Closed, mut steps: Vec<Step>) -> bool
+pub fn are_chains(closed: &Closed, mut steps: Vec<Step>) -> bool
     requires { closed.now.start.cpus ≡ 2 }
 {
     steps.sort_unstable_by_key(|s| (s.word, s.new, s.old >= s.new, s.by, s.call));
@@ -227,7 +227,7 @@ fn steps_of_four_threads_are_chains(rt: HostRuntime) -> Result<(), AllocError> {
     Ok(())
 }
 
-fn joined_three(words: &Words, first: Seat, a: Seat, b: Seat) -> Seat
+pub fn joined_three(words: &Words, first: Seat, a: Seat, b: Seat) -> Seat
     requires first { (place_of first ≡ words.now) × (numbers_of first.view ≡ 0 ∷ []) × (first.view.made ≡ 5) }
     requires a { (place_of a ≡ words.now) × (numbers_of a.view ≡ 1 ∷ []) }
     requires b { (place_of b ≡ words.now) × (numbers_of b.view ≡ 2 ∷ []) }
@@ -238,7 +238,7 @@ fn joined_three(words: &Words, first: Seat, a: Seat, b: Seat) -> Seat
     words.join(words.join(first, a), b)
 }
 
-fn end_five(words: Words, front: Seat, c: Seat, d: Seat) -> Closed
+pub fn end_five(words: Words, front: Seat, c: Seat, d: Seat) -> Closed
     requires front { (place_of front ≡ words) × (numbers_of front.view ≡ 0 ∷ 1 ∷ 2 ∷ []) × (front.view.made ≡ 5) }
     requires c { (place_of c ≡ words) × (numbers_of c.view ≡ 3 ∷ []) }
     requires d { (place_of d ≡ words) × (numbers_of d.view ≡ 4 ∷ []) }

@@ -5,7 +5,7 @@ use Rattle.clk_words.specs.Held.{Place}
 use Rattle.clk_words.specs.Histories.{opens_at}
 use Rattle.clk_words.proofs.Loading.{kept_both, kept_stamped}
 use Rattle.clk_local.proofs.Raising.{raw_near, still_base}
-use Rattle.clk_local.proofs.Keeping.{still_usable}
+use Rattle.clk_local.proofs.Keeping.{still_usable, role_kept}
 use Rattle.clk_local.proofs.Spending.{one_ticket, then_spends}
 use Rattle.clk_local.proofs.ticks.store_stamp.Goals as goal
 
@@ -25,14 +25,14 @@ returns-clause-spends g c =
 pub returns-clause-keeps : goal.returns-clause-keeps
 returns-clause-keeps g c =
     let kept = kept_both _ _ _ (kept_stamped _ _ _ _ c.stamp_gtod.ensures.stamped) (kept_stamped _ _ _ _ c.stamp_raw.ensures.stamped) in
+    let role = role_kept _ _ kept in
     record {
       words = refl;
       epochs = refl;
       tickets = refl;
       site = refl;
-      sched_offset = refl;
-      seat = kept;
-      usable = still_usable _ _ _ _ _ _ c.requires.usable c.stamp_raw.ensures.own kept c.read-raw.ensures.own (returns-clause-spends g c).table_is
+      role = role;
+      usable = still_usable _ _ _ _ _ _ c.requires.usable c.stamp_raw.ensures.own role c.read-raw.ensures.own (returns-clause-spends g c).table_is
           (still_base _ _ _ _ _ _ c.read-raw.ensures.reads c.requires.usable.base);
       may_stamp = λ may. record { owner = search rules; whole = c.stamp_raw.ensures.turn };
     }

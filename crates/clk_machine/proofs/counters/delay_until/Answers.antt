@@ -15,5 +15,5 @@ pub returns-else-passed-eq0-clause-few : goal.returns-else-passed-eq0-clause-few
 returns-else-passed-eq0-clause-few c =
     let is = c.sum.ensures ∙ sum_is_delayed c.args.k c.args.delays.now c.delays_passed-passed.result _ c.requires.sums c.delays_passed-passed.ensures c.if-passed-eq0.false in
     let few = delayed_few c.args.k (map delay_plan c.args.delays.now) in
-    let most = c.requires.delays.sum in
+    let most = c.requires.few in
     omega (arith, is, few, most)

@@ -7,6 +7,6 @@ use Rattle.clk_machine.proofs.delays.test_each.Given as goal
 -- what is left decides
 abbrev pub invariant-loop-i : goal.invariant-loop-i
 invariant-loop-i l = record {
-  left : each_delay (map delay_plan l.delays) ≡ each_told (λ told entry d. first (delay_tests told entry d)) after_delay l.told (l.i + 1) (drop l.i (map delay_plan l.delays));
+  left : each_delay l.limit (map delay_plan l.delays) ≡ each_told (λ told entry d. first (delay_tests l.limit told entry d)) after_delay l.told (l.i + 1) (drop l.i (map delay_plan l.delays));
   small : l.told.1 ≤ 2 ^ 39;
 }

@@ -1,7 +1,8 @@
-use Rattle.std.proofs.Common.{◌≡◌, ◌^◌, List, [], ◌∷◌, length, refl, arith, rules, FitsSigned, w64, to_z-of_z, sym, subst, ap, ◌∙◌}
+use Rattle.std.proofs.Common.{◌≡◌, List, [], ◌∷◌, length, refl, arith, rules, FitsSigned, w64, to_z-of_z, sym, subst, ap, ◌∙◌}
 use Rattle.std.proofs.lemmas.Int.{ints}
 use Rattle.clk_num.proofs.Heights.{difference_is}
 use Rattle.clk_ticket.specs.Time.{Time}
+use Rattle.clk_machine.specs.Limits.{most_tickets}
 use Rattle.clk_machine.specs.Records.{record_zero}
 use Rattle.clk_machine.specs.declared.reading.Published.{Published}
 use Rattle.clk_machine.proofs.Readings.{first_readings_are_small}
@@ -20,16 +21,16 @@ returns-clause-stamped c =
     let (from, upto) = c.gtod-gtod.ensures.small in
     let ns : FitsSigned w64 c.read-raw.result.ns = search rules in
     let gtod : FitsSigned w64 c.gtod-gtod.result = search rules in
-    let before : IsSound m (2 ^ 24) c.args.seat.now.epoch c.args.time.now =
-    subst (λ (e : Epoch). IsSound m (2 ^ 24) e c.args.time.now) (sym c.requires.seat) (begin_sound m c.args.tickets.now c.args.time.now c.requires.epoch) in
-    let drawn = draws_sound m (2 ^ 24) c.args.seat.now.epoch c.args.time.now c.draw-gtod_ticket.new.seat c.draw-gtod_ticket.result 1 before first in
-    let again = draws_sound m (2 ^ 24) c.args.seat.now.epoch c.draw-gtod_ticket.new.seat c.read-raw.new.time c.read-raw.result.ticket 1 drawn read.draws in
+    let before : IsSound m most_tickets c.args.seat.now.epoch c.args.time.now =
+    subst (λ (e : Epoch). IsSound m most_tickets e c.args.time.now) (sym c.requires.seat) (begin_sound m c.args.tickets.now c.args.time.now c.requires.epoch) in
+    let drawn = draws_sound m most_tickets c.args.seat.now.epoch c.args.time.now c.draw-gtod_ticket.new.seat c.draw-gtod_ticket.result 1 before first in
+    let again = draws_sound m most_tickets c.args.seat.now.epoch c.draw-gtod_ticket.new.seat c.read-raw.new.time c.read-raw.result.ticket 1 drawn read.draws in
     let last = read.reads.last in
     let records : c.read-raw.new.seat.epoch.records ≡ record_zero m ∷ [] = read.reads.owner before.owner ∙ ap (λ (e : Epoch). e.records) c.requires.seat in
     let first_left = ap (λ (t : Time). t.left) first.is in
     let second_left = ap (λ (t : Time). t.left) read.draws.is in
     let epoch_left = ap (λ (t : Time). t.left) c.requires.epoch.is in
-    let whole = reads_sound m (2 ^ 24) c.args.seat.now.epoch c.read-raw.new.seat.epoch c.read-raw.new.time c.read-raw.result again read.reads in
+    let whole = reads_sound m most_tickets c.args.seat.now.epoch c.read-raw.new.seat.epoch c.read-raw.new.time c.read-raw.result again read.reads in
     let count = ap length records in
     let first_record : c.read-raw.result.rec ≡ 0 = omega (arith, last, count) in
     let ticket = read.draws.bound in

@@ -1,4 +1,4 @@
-use Rattle.std.proofs.Common.{◌≡◌, ◌∙◌, rules, to_z-of_z, FitsSigned, w64}
+use Rattle.std.proofs.Common.{◌∙◌, rules, to_z-of_z, FitsSigned, w64}
 use Rattle.clk_warp.proofs.Pairing.{paired}
 use Rattle.clk_warp.proofs.pair.run_whole.Goals as goal
 

@@ -1,10 +1,11 @@
-use Rattle.std.proofs.Common.{◌≡◌, ◌*◌, ◌^◌, ◌≤◌, take}
+use Rattle.std.proofs.Common.{◌≡◌, ◌*◌, ◌≤◌, take}
 use Rattle.std.specs.List.{sum_by}
+use Rattle.clk_machine.specs.Limits.{longest_pause}
 use Rattle.clk_machine.specs.Tickets.{tickets_of}
 use Rattle.clk_machine.proofs.script.Script.tickets.Given as goal
 
 abbrev pub invariant-loop-word : goal.invariant-loop-word
 invariant-loop-word l = record {
   sum : l.tickets ≡ sum_by tickets_of (take l.word-index l.self.words.items);
-  few : l.tickets ≤ l.word-index * 2 ^ 24;
+  few : l.tickets ≤ l.word-index * longest_pause;
 }

@@ -14,7 +14,7 @@ returns c =
     let u = record v { ctx = c.idle-read.new.ctx } in
     let told = c.idle-read.ensures in
     let at = subst (λ (z : Site). ShowsIdle z (known v) c.idle-read.result (known u)) (site_is v c.requires.ready) told.shows in
-    let showed = showed_idle (machine_of v) v.ctx.tickets.now.total v.ctx.call (known v) (known u) c.idle-read.result c.requires.ready.sound c.requires.left told.percpu told.ticked at in
+    let showed = showed_idle (machine_of v) v.ctx.tickets.now.total v.ctx.call (known v) (known u) c.idle-read.result c.requires.ready.sound c.requires.left c.requires.ready.percpu at in
     let one = subst (λ ks. KeepsEvents u.ctx.call ks 1 u c.keep_reading.new.self) showed.first c.keep_reading.ensures in
     let same = ap (λ x. x.call) c.keep_reading.ensures.ctx in
     let two = subst (λ ks. KeepsEvents u.ctx.call ks 1 c.keep_reading.new.self c.keep_tick.new.self) showed.second

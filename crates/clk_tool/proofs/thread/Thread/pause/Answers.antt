@@ -1,5 +1,6 @@
 use Rattle.std.proofs.Common.{refl, arith, ap, ◌∙◌, sym, rules, append-nil}
 use Rattle.clk_ticket.specs.Time.{Time}
+use Rattle.clk_tool.proofs.Showing.{no_look}
 use Rattle.clk_tool.proofs.Sounding.{draws_sound}
 use Rattle.clk_tool.proofs.thread.Thread.pause.Goals as goal
 
@@ -15,7 +16,7 @@ returns c =
       calls = (_, refl, refl);
       makes = record {
         events = c.push.ensures.items;
-        runs = (_, record { draws = drew; epoch_is = refl; view_is = refl }, refl);
+        runs = (_, _, no_look _, record { draws = drew; epoch_is = refl; view_is = refl }, refl);
         history = sym (append-nil v.history.items);
       };
       spends = record { tickets_left = omega (arith, left, within); updates_left = omega arith };
@@ -26,12 +27,13 @@ returns c =
         limits = ready.limits;
         cpu = ready.cpu;
         adjust = ready.adjust;
+        sched_offset = ready.sched_offset;
+        percpu = ready.percpu;
         usable = record {
           of_words = ready.usable.of_words;
           of_latch = ready.usable.of_latch;
           of_tickets = ap (λ (t : Time). t.table) drew.is ∙ ready.usable.of_tickets;
           reading = ready.usable.reading;
-          found = ready.usable.found;
           cpu_is = ready.usable.cpu_is;
           machine_cpu = ready.usable.machine_cpu;
           near = ready.usable.near;

@@ -1,6 +1,7 @@
 use Rattle.std.proofs.Common.{refl, arith, ap, ◌∙◌, sym, rules, append-nil}
 use Rattle.clk_ticket.specs.Time.{Time}
 use Rattle.clk_latch.specs.Epoch.{Epoch}
+use Rattle.clk_tool.proofs.Showing.{no_look}
 use Rattle.clk_tool.proofs.Sounding.{sound_base, updates_sound}
 use Rattle.clk_tool.proofs.thread.Thread.update.Goals as goal
 
@@ -19,7 +20,7 @@ returns c =
       calls = (_, refl, tt);
       makes = record {
         events = c.push.ensures.items;
-        runs = (_, record { updates = updates_told; draws = told.draws; view_is = refl }, refl);
+        runs = (_, _, no_look _, record { updates = updates_told; draws = told.draws; view_is = refl }, refl);
         history = sym (append-nil v.history.items);
       };
       spends = record { tickets_left = omega (arith, left, within); updates_left = omega (arith, updates, some) };
@@ -30,12 +31,13 @@ returns c =
         limits = ready.limits;
         cpu = ready.cpu;
         adjust = ready.adjust;
+        sched_offset = ready.sched_offset;
+        percpu = ready.percpu;
         usable = record {
           of_words = ready.usable.of_words;
           of_latch = told.own;
           of_tickets = ap (λ (t : Time). t.table) told.draws.is ∙ ready.usable.of_tickets;
           reading = ready.usable.reading;
-          found = ready.usable.found;
           cpu_is = ready.usable.cpu_is;
           machine_cpu = ready.usable.machine_cpu;
           near = ready.usable.near;

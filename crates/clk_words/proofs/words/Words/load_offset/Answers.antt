@@ -1,17 +1,27 @@
-use Rattle.std.proofs.Common.{sym, ap, subst, ◌∙◌, rules, to_z-of_z, FitsSigned, w64}
-use Rattle.clk_words.specs.Histories.{opens_at}
-use Rattle.clk_words.specs.Bounds.{IsOffset}
-use Rattle.clk_words.specs.Held.{Place}
-use Rattle.clk_words.proofs.Calling.{offset_range}
+use Rattle.std.proofs.Common.{sym, ap, ◌∙◌, rules, to_z-of_z, FitsSigned, w64}
+use Rattle.clk_words.specs.declared.view.View.{View}
+use Rattle.clk_words.specs.Held.{Held}
+use Rattle.clk_words.proofs.Looking.{finds_offset_at}
+use Rattle.clk_words.proofs.Calling.{belongs, offset_behind, within_table, place_kept, sits_offset, says_offset}
 use Rattle.clk_words.proofs.words.Words.load_offset.Goals as goal
 
-pub returns-clause-value : goal.returns-clause-value
-returns-clause-value c =
-    let fits : FitsSigned w64 c.self.inside.offset = search rules in
-    rw (to_z-of_z fits) (c.self.invariant.offset_is ∙ ap (λ (p : Place). p.start.opening.offset) (c.self.view_is ∙ sym c.requires.own))
+pub load-requires : goal.load-requires
+load-requires c =
+    let own = belongs _ _ c.seat.inside.at.me.0 _ _ _ c.seat.view_is c.requires.own c.self.view_is in
+    let word = offset_behind _ _ _ _ c.self.view_is c.offset_place-word.ensures.word in
+    let within = within_table _ _ _ _ c.self.view_is c.offset_place-word.ensures.within in
+    let found = ap (λ (h : Held). h.view.modes.found) c.seat.view_is ∙ c.requires.found in
+    (own.table_is, within, finds_offset_at _ _ _ _ _ word c.seat.invariant.live found)
 
-pub returns-clause-range : goal.returns-clause-range
-returns-clause-range c =
-    let fits : FitsSigned w64 c.self.inside.offset = search rules in
-    rw (to_z-of_z fits, c.self.invariant.offset_is)
-    (subst (λ (p : Place). IsOffset (opens_at p.start) c.self.inside.table.shared.key.opening.offset) c.self.view_is (offset_range c.self.inside.table.shared.key.opening c.self.invariant.opening))
+pub invariant_of-seat : goal.invariant_of-seat
+invariant_of-seat c = let told = c.load.ensures.2 in sits_offset _ _ _ _ _ _ _ c.seat.invariant told.slots_kept _ told.finds
+
+pub returns : goal.returns
+returns c =
+    let told = c.load.ensures.2 in
+    let own = belongs _ _ c.seat.inside.at.me.0 _ _ _ c.seat.view_is c.requires.own c.self.view_is in
+    let fits : FitsSigned w64 c.value_of_bits.result = search rules in
+    record {
+      own = place_kept _ _ _ _ _ _ _ own c.self.view_is c.load.ensures.0 (ap (λ (u : View). u.start) told.finds.view_is);
+      finds = rw (to_z-of_z fits) (says_offset _ _ _ _ _ _ told (ap (λ (h : Held). h.view) c.seat.view_is) (sym c.value_of_bits.ensures));
+    }

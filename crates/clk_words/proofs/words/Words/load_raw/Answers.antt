@@ -11,8 +11,9 @@ load-requires c =
     let own = belongs _ _ c.seat.inside.at.me.0 _ _ _ c.seat.view_is c.requires.own c.self.view_is in
     let cpu = c.cpu.ensures.cpu ∙ ap (λ (h : Held). cpu_of h.view.kind) (sym c.seat.view_is) in
     let word = raw_place _ _ _ _ _ _ c.self.view_is c.raw_word-word.ensures.word cpu in
+    let found = ap (λ (h : Held). h.view.modes.found) c.seat.view_is ∙ c.requires.found in
     let within = within_table _ _ _ _ c.self.view_is c.raw_word-word.ensures.within in
-    (own.table_is, within, finds_raw_at _ _ _ _ _ word c.seat.invariant.live (cpu_low _ _ _ _ _ own c.seat.invariant.within))
+    (own.table_is, within, finds_raw_at _ _ _ _ _ word c.seat.invariant.live found (cpu_low _ _ _ _ _ own c.seat.invariant.within))
 
 pub invariant_of-seat : goal.invariant_of-seat
 invariant_of-seat c = let told = c.load.ensures.2 in sits_finds _ _ _ _ _ _ _ c.seat.invariant told.slots_kept _ _ _ told.finds.range told.finds.finds

@@ -1,7 +1,6 @@
 use Rattle.std.proofs.Common.{sym, subst, ap, ◌∙◌, rules, to_z-of_z, FitsSigned, w64}
 use Rattle.atomic_table.specs.Table.{Me}
 use Rattle.clk_num.proofs.Heights.{sum_is}
-use Rattle.clk_words.specs.declared.opening.Start.{Start}
 use Rattle.clk_words.specs.declared.kind.SeatKind.TheVariants.{Reader}
 use Rattle.clk_words.specs.declared.step.Step.{Step}
 use Rattle.clk_words.specs.declared.view.View.{View}
@@ -14,7 +13,7 @@ use Rattle.clk_words.proofs.words.Words.new.Goals as goal
 pub of_words-requires : goal.of_words-requires
 of_words-requires c =
     let first = c.in_ok-words.ensures in
-    starts _ _ c.requires.mode c.requires.opening (rw c.as_slice.ensures.value first)
+    starts _ _ c.requires.opening (rw c.as_slice.ensures.value first)
 
 pub invariant_of-words : goal.invariant_of-words
 invariant_of-words c =
@@ -29,7 +28,6 @@ invariant_of-words c =
       cpus_is = search rules;
       tick_is = search rules;
       opens_is = opens ∙ sym (ap opens_at told.5);
-      offset_is = to_z-of_z offset ∙ sym (ap (λ (s : Start). s.opening.offset) told.5);
       some_cpu = search rules;
       small = search rules;
       tick_range = rw told.5 (rw (to_z-of_z tick) c.requires.tick);

@@ -17,7 +17,7 @@ pub word_at-most-requires : goal.word_at-most-requires
 word_at-most-requires g c =
     let key : Start = c.self.inside.table.shared.key in
     let own = belongs _ _ c.seat.inside.at.me.0 _ _ _ c.seat.view_is c.requires.own c.self.view_is in
-    let may = asked _ _ _ _ _ _ _ c.args.why _ _ _ _ c.self.invariant c.seat.view_is c.self.view_is c.requires.word c.requires.trusted c.requires.found in
+    let may = asked _ _ _ _ _ _ _ c.args.why _ _ _ c.self.invariant c.seat.view_is c.self.view_is c.requires.word c.requires.trusted c.requires.found in
     let near = asked_target _ _ _ _ _ _ _ _ c.seat.invariant own.start_is may in
     let opens : FitsSigned w64 c.self.inside.opens = search rules in
     let tick : FitsSigned w64 c.self.inside.tick = search rules in
@@ -31,7 +31,7 @@ fetch_max-found-requires g c =
     let own = belongs _ _ c.seat.inside.at.me.0 _ _ _ c.seat.view_is c.requires.own c.self.view_is in
     let why : Why = g.A.Asked.why in
     let trusted = subst (λ y. IsTrusted c.args.seat.now.view y) (sym c.requires.why) c.requires.trusted in
-    let may = asked _ _ _ _ _ _ _ why _ _ _ _ c.self.invariant c.seat.view_is c.self.view_is c.requires.word trusted c.requires.found in
+    let may = asked _ _ _ _ _ _ _ why _ _ _ c.self.invariant c.seat.view_is c.self.view_is c.requires.word trusted c.requires.found in
     let opens : FitsSigned w64 c.self.inside.opens = search rules in
     let tick : FitsSigned w64 c.self.inside.tick = search rules in
     let wanted : FitsSigned w64 c.target-wanted.result = search rules in

@@ -15,12 +15,13 @@ store-requires c =
     let own = belongs _ _ c.seat.inside.at.me.0 _ _ _ c.seat.view_is c.requires.own c.self.view_is in
     let cpu = c.cpu.ensures.cpu ∙ ap (λ (h : Held). cpu_of h.view.kind) (sym c.seat.view_is) in
     let word = gtod_place _ _ _ _ _ _ c.self.view_is c.gtod_word-word.ensures.word cpu in
+    let found = ap (λ (h : Held). h.view.modes.found) c.seat.view_is ∙ c.requires.found in
     let within = within_table _ _ _ _ c.self.view_is c.gtod_word-word.ensures.within in
     let fits : FitsSigned w64 c.args.value = search rules in
     let word_is = bits_here c.args.value c.bits_of-new.result fits (simp to_z-of_z at c.bits_of-new.ensures) in
     let owner = subst (λ (h : Held). IsOwner h.view) (sym c.seat.view_is) c.requires.owner in
     let turn = subst (λ (h : Held). StampsAreWhole h.view) (sym c.seat.view_is) c.requires.turn in
-    (own.table_is, within, stores_gtod_at _ _ _ _ _ _ c.args.value word c.seat.invariant.live (cpu_low _ _ _ _ _ own c.seat.invariant.within) owner word_is c.requires.bound turn)
+    (own.table_is, within, stores_gtod_at _ _ _ _ _ _ c.args.value word c.seat.invariant.live found (cpu_low _ _ _ _ _ own c.seat.invariant.within) owner word_is c.requires.bound turn)
 
 pub returns-clause-turn : goal.returns-clause-turn
 returns-clause-turn c =

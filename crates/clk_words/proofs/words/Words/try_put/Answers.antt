@@ -18,7 +18,7 @@ pub word_at-requires : goal.word_at-requires
 word_at-requires c =
     let key : Start = c.self.inside.table.shared.key in
     let own = belongs _ _ c.seat.inside.at.me.0 _ _ _ c.seat.view_is c.requires.own c.self.view_is in
-    let may = asked _ _ _ _ _ _ _ c.args.why _ _ _ _ c.self.invariant c.seat.view_is c.self.view_is c.requires.word c.requires.trusted c.requires.found in
+    let may = asked _ _ _ _ _ _ _ c.args.why _ _ _ c.self.invariant c.seat.view_is c.self.view_is c.requires.word c.requires.trusted c.requires.found in
     let loaded = subst (λ (h : Held). HasLoaded h.view (Clock c.args.w) c.args.old) (sym c.seat.view_is) c.requires.loaded in
     let new_is = c.requires.new ∙ ap (λ (p : Place). raise c.args.old (target p.start.tick c.args.why)) (sym c.self.view_is) in
     let ranges = put_in_range _ _ _ _ _ _ _ _ c.seat.invariant own.start_is may c.args.old c.args.new loaded new_is in
@@ -35,7 +35,7 @@ compare_exchange_with-found-requires c =
     let opens : FitsSigned w64 c.self.inside.opens = search rules in
     let old_word = word_here key key _ c.args.old _ refl c.self.invariant.opens_is (simp to_z-of_z at c.word_at-wanted.ensures) in
     let new_word = word_here key key _ c.args.new _ refl c.self.invariant.opens_is (simp to_z-of_z at c.word_at.ensures) in
-    let may = asked _ _ _ _ _ _ _ c.args.why _ _ _ _ c.self.invariant c.seat.view_is c.self.view_is c.requires.word c.requires.trusted c.requires.found in
+    let may = asked _ _ _ _ _ _ _ c.args.why _ _ _ c.self.invariant c.seat.view_is c.self.view_is c.requires.word c.requires.trusted c.requires.found in
     let loaded = subst (λ (h : Held). HasLoaded h.view (Clock c.args.w) c.args.old) (sym c.seat.view_is) c.requires.loaded in
     let new_is = c.requires.new ∙ ap (λ (p : Place). raise c.args.old (target p.start.tick c.args.why)) (sym c.self.view_is) in
     let said : Step = record { by = c.seat.inside.number; call = c.args.call; word = c.args.w; why = c.args.why; old = c.args.old; new = c.args.new } in

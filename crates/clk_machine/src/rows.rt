@@ -1,0 +1,113 @@
+//! The rows of the machine file, named once: the reader, the range tests and the text of a place all cite these.
+ghost use Rattle.std.specs.Prelude.{◌≡◌};
+ghost use Rattle.clk_machine.specs.Rows.{number_of};
+
+/// A row of the machine file: a key, or a table. Its number is how a [`crate::Place`] names it.
+#[derive(Clone, Copy)]
+pub enum Row {
+    Version = 1,
+    Cpus = 2,
+    Step = 3,
+    Tick = 4,
+    Bits = 5,
+    NominalKhz = 6,
+    Stable = 7,
+    Reference = 8,
+    ReferenceKhz = 9,
+    ReferenceBits = 10,
+    ReferenceRating = 11,
+    ReferenceMargin = 12,
+    Cpu = 13,
+    CpuKhz = 14,
+    CpuOffset = 15,
+    CpuJumps = 16,
+    CpuRepeat = 17,
+    CpuScript = 18,
+    Reader = 19,
+    ReaderCpu = 20,
+    ReaderRepeat = 21,
+    ReaderScript = 22,
+    Delay = 23,
+    DelayTicket = 24,
+    DelayNs = 25,
+    BringUp = 26,
+    BringUpAdjust = 27,
+    BringUpTimeout = 28,
+    BringUpTurns = 29,
+    Watchdog = 30,
+    WatchdogChecks = 31,
+    WatchdogPause = 32,
+    WatchdogSkew = 33,
+    WatchdogRetries = 34,
+    Source = 35,
+    SourceName = 36,
+    SourceTsc = 37,
+    SourceRating = 38,
+    SourceMargin = 39,
+    SourceNominalKhz = 40,
+    SourceKhz = 41,
+    SourceBits = 42,
+    SourceJumps = 43,
+    Base = 44,
+    CpuSocket = 45,
+    BringUpFirst = 46,
+}
+
+impl Row {
+    /// The number of the row, 1 to 46. Those of version 2 come after all others.
+    pub fn number(self) -> u32
+        ensures { result ≡ number_of self }
+    {
+        self as u32
+    }
+}
+
+/// The table and the key of each row, by its number from 1 on. A table's own row has no key, and the top table no name.
+pub const ROW_NAMES: [(&str, &str); 46] = [
+    ("", "version"),
+    ("", "cpus"),
+    ("", "step"),
+    ("", "tick"),
+    ("", "bits"),
+    ("", "nominal_khz"),
+    ("", "stable"),
+    ("reference", ""),
+    ("reference", "khz"),
+    ("reference", "bits"),
+    ("reference", "rating"),
+    ("reference", "margin"),
+    ("cpu", ""),
+    ("cpu", "khz"),
+    ("cpu", "offset"),
+    ("cpu", "jumps"),
+    ("cpu", "repeat"),
+    ("cpu", "script"),
+    ("reader", ""),
+    ("reader", "cpu"),
+    ("reader", "repeat"),
+    ("reader", "script"),
+    ("delay", ""),
+    ("delay", "ticket"),
+    ("delay", "ns"),
+    ("bringup", ""),
+    ("bringup", "adjust"),
+    ("bringup", "timeout_us"),
+    ("bringup", "turns"),
+    ("watchdog", ""),
+    ("watchdog", "checks"),
+    ("watchdog", "pause"),
+    ("watchdog", "skew"),
+    ("watchdog", "retries"),
+    ("source", ""),
+    ("source", "name"),
+    ("source", "tsc"),
+    ("source", "rating"),
+    ("source", "margin"),
+    ("source", "nominal_khz"),
+    ("source", "khz"),
+    ("source", "bits"),
+    ("source", "jumps"),
+    ("", "base"),
+    ("cpu", "socket"),
+    ("bringup", "first_us"),
+];

@@ -1,0 +1,4 @@
+//! Callers of the remote read, on two CPUs.
+mod fixtures;
+mod rows;
+mod threads;

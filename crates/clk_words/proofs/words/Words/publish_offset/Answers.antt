@@ -1,0 +1,38 @@
+use Rattle.std.proofs.Common.{sym, ap, subst, refl, rules, to_z-of_z, FitsSigned, w64}
+use Rattle.atomic_table.specs.Table.{Me}
+use Rattle.clk_words.specs.declared.step.Step.{Step}
+use Rattle.clk_words.specs.declared.view.View.{View}
+use Rattle.clk_words.specs.Histories.{opens_at}
+use Rattle.clk_words.specs.Bounds.{IsOffset}
+use Rattle.clk_words.specs.Knowing.{MayDemote}
+use Rattle.clk_words.specs.Held.{Held, Place}
+use Rattle.clk_words.proofs.Watching.{stores_offset}
+use Rattle.clk_words.proofs.Calling.{belongs, offset_behind, within_table, place_kept, bits_here, sits_modes, says_put}
+use Rattle.clk_words.proofs.words.Words.publish_offset.Goals as goal
+
+pub store-requires : goal.store-requires
+store-requires c =
+    let own = belongs _ _ c.seat.inside.at.me.0 _ _ _ c.seat.view_is c.requires.own c.self.view_is in
+    let word = offset_behind _ _ _ _ c.self.view_is c.offset_place-word.ensures.word in
+    let within = within_table _ _ _ _ c.self.view_is c.offset_place-word.ensures.within in
+    let fits : FitsSigned w64 c.args.value = search rules in
+    let word_is = bits_here c.args.value c.bits_of-new.result fits (simp to_z-of_z at c.bits_of-new.ensures) in
+    let bound = subst (λ (p : Place). IsOffset (opens_at p.start) c.args.value) (sym c.self.view_is) c.requires.bound in
+    let may = subst (λ (h : Held). MayDemote h.view) (sym c.seat.view_is) c.requires.may in
+    (own.table_is, within, stores_offset _ _ _ _ _ _ c.args.value word c.seat.invariant.live may word_is bound)
+
+pub invariant_of-seat : goal.invariant_of-seat
+invariant_of-seat c =
+    let told = c.store.ensures.2 in
+    sits_modes _ _ _ _ _ _ _ c.seat.invariant (ap (λ (m : Me Step View). m.1) told.is) _ _ (ap (λ (m : Me Step View). m.0) told.is) refl refl
+
+pub returns : goal.returns
+returns c =
+    let told = c.store.ensures.2 in
+    let own = belongs _ _ c.seat.inside.at.me.0 _ _ _ c.seat.view_is c.requires.own c.self.view_is in
+    let fits : FitsSigned w64 c.args.value = search rules in
+    let word_is = bits_here c.args.value c.bits_of-new.result fits (simp to_z-of_z at c.bits_of-new.ensures) in
+    record {
+      own = place_kept _ _ _ _ _ _ _ own c.self.view_is c.store.ensures.0 (ap (λ (m : Me Step View). m.0.start) told.is);
+      put = says_put _ _ _ _ c.args.value _ told.is (ap (λ (h : Held). h.view) c.seat.view_is) told.word_is word_is;
+    }
