@@ -25,10 +25,6 @@ pub option_or-none : {R : Type 0} (t : Option R) → option_or t None ≡ t
 option_or-none None = refl
 option_or-none (Some r) = refl
 
-pub option_or-assoc : {R : Type 0} (a b c : Option R) → option_or (option_or a b) c ≡ option_or a (option_or b c)
-option_or-assoc None b c = refl
-option_or-assoc (Some r) b c = refl
-
 pub first_from-is : {R : Type 0} (t : Option R) (ts : List (Option R)) → first_from t ts ≡ option_or t (first ts)
 first_from-is None ts = refl
 first_from-is (Some r) ts = first_from-some r ts

@@ -2,3 +2,4 @@ pub mod Lines
 pub mod Drawn
 pub mod Firsts
 pub mod Rising
+pub mod Walks

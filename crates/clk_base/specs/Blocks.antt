@@ -31,6 +31,16 @@ abbrev pub Rises : List Block → Type 0
 Rises [] = Unit {0}
 Rises (b ∷ bs) = All (λ c. end_of b ≤ c.first) bs × Rises bs
 
+-- the first block begins at n or above, and each other one where the one before it ended or above
+abbrev pub RisesFrom : ℕ → List Block → Type 0
+RisesFrom n [] = Unit {0}
+RisesFrom n (b ∷ bs) = (n ≤ b.first) × RisesFrom (end_of b) bs
+
+-- where such blocks end
+abbrev pub top_of : ℕ → List Block → ℕ
+top_of n [] = n
+top_of n (b ∷ bs) = top_of (end_of b) bs
+
 -- the first block begins at n, each other one where the one before it ended, and the last one ends at m
 abbrev pub Follows : ℕ → List Block → ℕ → Type 0
 Follows n [] m = n ≡ m

@@ -3,3 +3,5 @@ pub mod Text
 pub mod Blocks
 pub mod First
 pub mod Laws
+pub mod Walk
+pub mod Chains

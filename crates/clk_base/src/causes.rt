@@ -1,3 +1,4 @@
+//! Counts of faults, which tell what a call failed of.
 ghost use Rattle.std.specs.Prelude.{◌≡◌};
 ghost use Rattle.clk_base.specs.Causes.{one_more, Rose};
 

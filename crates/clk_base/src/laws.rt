@@ -1,3 +1,4 @@
+//! Laws of lines and of blocks of numbers.
 ghost use Rattle.clk_base.specs.First.{FirstDecides};
 ghost use Rattle.clk_base.specs.Laws.{LinesOfJoined, ConsecutiveBlocksCover};
 

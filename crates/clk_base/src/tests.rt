@@ -1,3 +1,4 @@
+//! A count of faults at both of its ends.
 use crate::causes::raised;
 
 #[test]

@@ -1,16 +1,15 @@
 -- Words and tickets of scripts, after their repeats.
 use Rattle.std.proofs.Common.{◌≡◌, ℕ, zero, suc, ◌+◌, ◌*◌, ◌^◌, ◌<◌, ◌≤◌, List, [], ◌∷◌, length, get_or, take, map, refl, sym, ◌∙◌, ap, arith, length-append}
 use Rattle.std.specs.List.{sum_by, repeat, enumerate_from}
-use Rattle.std.proofs.Math.Nat.{mul-le-mul_left}
+use Rattle.std.proofs.Math.Nat.{mul-le-mul_left, mul-le-mul_right}
 use Rattle.std.proofs.lemmas.List.{get_or-map, length-map, take_more}
-use Rattle.std.proofs.lemmas.List.Sums.{sum_by-cons, sum_by-append, sum_by_push}
+use Rattle.std.proofs.lemmas.List.Sums.{sum_by-cons, sum_by-append, sum_by_push, get_or-le-sum_by}
 use Rattle.clk_machine.specs.declared.script.Word.{Word}
 use Rattle.clk_machine.specs.declared.script.Word.TheVariants.{Local, Remote, Tick, Idle, Update, Pause}
-use Rattle.clk_machine.specs.Plan.{Plan, ScriptPlan, CpuPlan, ReaderPlan, count_of, all_words, threads_of}
+use Rattle.clk_machine.specs.Plan.{Plan, ScriptPlan, CpuPlan, ReaderPlan, count_of, all_words, threads_of, thread_at}
 use Rattle.clk_machine.specs.Limits.{longest_pause, IsInRange, IsScript}
 use Rattle.clk_machine.specs.Ranges.{script_length}
-use Rattle.clk_machine.specs.Short.{IsShort}
-use Rattle.clk_machine.specs.Tickets.{tickets_of, word_tickets}
+use Rattle.clk_machine.specs.Tickets.{tickets_of, word_tickets, tickets_needed}
 use Rattle.clk_machine.specs.Tested.{HasCount, IsRunnable, script_tickets}
 
 -- a loop's sum over the plans of its items goes on by that of the item where it stands
@@ -21,9 +20,12 @@ sum_at view f xs i x h at =
     let e : get_or (map view xs) i (view x) ≡ view x = get_or-map view xs i x (view x) h ∙ ap view (sym at) in
     rw (take_more (map view xs) i (view x) low, e) (sum_by_push f (take i (map view xs)) (view x))
 
--- many repeats of few words, or few repeats of many
-pub product_few : (repeats tickets words : ℕ) → tickets ≤ words * longest_pause → words * repeats ≤ 65536 → repeats * tickets ≤ 2 ^ 40
-product_few repeats tickets words t w = let most = mul-le-mul_left repeats t in omega arith
+-- many repeats of few words, or few repeats of many, where each word has so much at most
+pub product_few : (most repeats total words : ℕ) → total ≤ words * most → words * repeats ≤ 65536 → repeats * total ≤ 65536 * most
+product_few most repeats total words t w =
+    let each = mul-le-mul_left repeats t in
+    let all = mul-le-mul_right most w in
+    omega (arith, each, all)
 
 -- ---- repeats
 
@@ -39,22 +41,22 @@ sum_by-repeat f (suc n) xs = let e = sum_by-repeat f n xs in let more = sum_by-a
 
 has_count : (cpus : ℕ) (w : Word) → IsInRange cpus w → HasCount w
 has_count cpus Local h = tt
-has_count cpus (Remote d) h = tt
+has_count cpus (Remote d) h = h.0
 has_count cpus Tick h = tt
 has_count cpus Idle h = tt
 has_count cpus Update h = tt
 has_count cpus (Pause n) h = h
 
-pub runnable : (cpus : ℕ) (s : ScriptPlan) → IsScript cpus s → IsShort s.words → IsRunnable s
-runnable cpus s h short = record {
+pub runnable : (cpus : ℕ) (s : ScriptPlan) → IsScript cpus s → IsRunnable s
+runnable cpus s h = record {
   repeat = h.repeat;
-  short = short;
   few = (let few = h.few in omega (arith, length-repeat (count_of s.repeat) s.words, few));
   counts = λ k d low. has_count cpus (get_or s.words k d) (h.range k d low);
 }
 
-script_tickets-is : (s : ScriptPlan) → sum_by tickets_of (all_words s) ≡ script_tickets s
-script_tickets-is s = let e = sum_by-repeat tickets_of (count_of s.repeat) s.words in omega (arith, e)
+-- what the words of a script add up to after the repeats
+pub script_sum : (f : Word → ℕ) (s : ScriptPlan) → sum_by f (all_words s) ≡ count_of s.repeat * sum_by f s.words
+script_sum f s = let e = sum_by-repeat f (count_of s.repeat) s.words in omega (arith, e)
 
 -- ---- all threads
 
@@ -84,7 +86,11 @@ threads_sum f g same m =
     ∙ (let a = cpus_sum f g same 0 m.cpu in let b = readers_sum f g same m.reader in omega (arith, a, b))
 
 pub threads_draw : (m : Plan) → word_tickets m ≡ sum_by (λ c. script_tickets c.script) m.cpu + sum_by (λ r. script_tickets r.script) m.reader
-threads_draw m = threads_sum (sum_by tickets_of) script_tickets script_tickets-is m
+threads_draw m = threads_sum (sum_by tickets_of) script_tickets (script_sum tickets_of) m
+
+-- what one thread draws is within what all threads draw
+pub thread_draws : (m : Plan) (t : ℕ) → t < length (threads_of m) → sum_by tickets_of (thread_at m t).1 ≤ tickets_needed m
+thread_draws m t h = let one = get_or-le-sum_by (λ (u : ℕ × List Word). sum_by tickets_of u.1) (threads_of m) t (0, []) h in omega (arith, one)
 
 pub threads_length : (m : Plan) → sum_by (λ (t : ℕ × List Word). length t.1) (threads_of m) ≡ sum_by (λ c. script_length c.script) m.cpu + sum_by (λ r. script_length r.script) m.reader
 threads_length m = threads_sum length script_length (λ s. length-repeat (count_of s.repeat) s.words) m

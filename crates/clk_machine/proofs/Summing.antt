@@ -105,10 +105,6 @@ pub ns_more : (ds : List Delay) (i : ℕ) (d : Delay) → i < length ds
     → sum_by (λ e. count_of e.ns) (take (suc i) ds) ≡ sum_by (λ e. count_of e.ns) (take i ds) + count_of (get_or ds i d).ns
 ns_more ds i d h = rw (← add-one i, take_more ds i d h) (sum_by_push (λ (e : Delay). count_of e.ns) (take i ds) (get_or ds i d))
 
-pub ns_below : (ds : List Delay) (i : ℕ) (d : Delay) → i < length ds
-    → sum_by (λ e. count_of e.ns) (take i ds) + count_of (get_or ds i d).ns ≤ sum_by (λ e. count_of e.ns) ds
-ns_below ds i d h = sum_by_more_le (λ (e : Delay). count_of e.ns) ds i d h
-
 -- ---- a map in place, as a loop makes it
 
 pub map_at : {A : Type 0} (f : A → A) (xs : List A) (i : ℕ) (d : A) → i < length xs → get_or (map f (take i xs) ++ drop i xs) i d ≡ get_or xs i d

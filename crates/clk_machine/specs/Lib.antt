@@ -3,6 +3,7 @@ pub mod Plan
 pub mod Time
 pub mod Timeouts
 pub mod Tickets
+pub mod Steps
 pub mod Limits
 pub mod Short
 pub mod Ranges

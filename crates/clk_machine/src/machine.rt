@@ -2,12 +2,13 @@
 ghost use Rattle.std.specs.Prelude.{◌≡◌, ◌*◌, ◌^◌, ◌<◌, ◌≤◌, false, IfOk, IfErr, IsSome, IfSome, Some, None, pos, ◌≤ℤ◌, length, slice_index_or};
 ghost use Rattle.std.specs.Option.{option_copied};
 ghost use Rattle.std.specs.Ordering.{int_eq};
-ghost use Rattle.std.specs.List.{list_any};
+ghost use Rattle.std.specs.List.{list_any, sum_by};
 ghost use Rattle.clk_base.specs.First.{first};
 ghost use Rattle.clk_num.specs.Range.{IsNear};
 ghost use Rattle.clk_machine.specs.Plan.{plan_of, script_plan, cpu_plan, reader_plan, source_plan, count_of, cpu_count, all_words, threads_of, thread_at};
 ghost use Rattle.clk_machine.specs.Limits.{ticket_limit, most_tickets, IsWithin, IsWidth, IsRateInKhz, IsScript, IsCpu, IsReader, IsSource, AreInRange, IsWithinLimits};
-ghost use Rattle.clk_machine.specs.Tickets.{tickets_needed};
+ghost use Rattle.clk_machine.specs.Tickets.{tickets_of, tickets_needed};
+ghost use Rattle.clk_machine.specs.Steps.{steps_for};
 ghost use Rattle.clk_machine.specs.Timeouts.{is_first_of_socket, timeout_of};
 ghost use Rattle.clk_machine.specs.Records.{base_of};
 ghost use Rattle.clk_machine.specs.Time.{time_at, cpu_at, counter_at, source_plan_at, source_at, reference_at, gtod_at, sched_rate, reference_rate, rate_of};
@@ -179,6 +180,28 @@ impl Machine {
         ensures { result ≡ slice_index_or (thread_at self.now thread).1 m result }
     {
         self.script(thread).word(m)
+    }
+
+    /// How many tickets the words of the script of a thread draw, after repeats, at most 2^26. Threads are numbered as in
+    /// [`threads`](Machine::threads): first the CPUs, then the readers.
+    pub fn tickets(&self, thread: u32) -> u64
+        requires { thread < length (threads_of self.now) }
+        ensures count { result ≡ sum_by tickets_of (thread_at self.now thread).1 }
+        ensures few { result ≤ most_tickets }
+    {
+        let _needed = self.tickets_needed();
+        self.script(thread).tickets()
+    }
+
+    /// The most steps that the script of a thread makes on the clock word of CPU `w`, after repeats, at most 3 * 65,536.
+    /// Which of two words a remote reading couples is known in the run alone, so its step counts on both. Threads are
+    /// numbered as in [`threads`](Machine::threads).
+    pub fn steps(&self, thread: u32, w: u32) -> u32
+        requires { thread < length (threads_of self.now) }
+        ensures count { result ≡ sum_by (steps_for w (thread_at self.now thread).0) (thread_at self.now thread).1 }
+        ensures few { result ≤ 3 * 65536 }
+    {
+        self.script(thread).steps(self.cpu_of(thread), w)
     }
 
     /// The length of a tick, 1 to 2^30 ns.

@@ -1,10 +1,12 @@
 //! What a thread does, word by word.
-ghost use Rattle.std.specs.Prelude.{◌≡◌, ◌^◌, ◌<◌, ◌≤◌, length, slice_index_or};
+ghost use Rattle.std.specs.Prelude.{◌≡◌, ◌*◌, ◌^◌, ◌<◌, ◌≤◌, length, slice_index_or};
+ghost use Rattle.std.specs.List.{All, sum_by};
 ghost use Rattle.clk_machine.specs.Plan.{script_plan, all_words};
 ghost use Rattle.clk_machine.specs.Limits.{IsWithin, longest_pause, is_update};
 ghost use Rattle.clk_machine.specs.Ranges.{script_length, script_updates};
-ghost use Rattle.clk_machine.specs.Tested.{HasCount, IsRunnable, script_tickets};
+ghost use Rattle.clk_machine.specs.Tested.{HasCount, IsRunnable, script_tickets, script_steps};
 ghost use Rattle.clk_machine.specs.Tickets.{tickets_of};
+ghost use Rattle.clk_machine.specs.Steps.{on_word, steps_for};
 
 use crate::ranges::count;
 use clk_num::List;
@@ -54,6 +56,21 @@ impl Word {
             Word::Pause(tickets) => count(tickets),
         }
     }
+
+    /// The most steps that the word makes on clock word `w`, on this CPU.
+    fn steps(&self, cpu: u32, w: u32) -> u32
+        requires { HasCount self.now }
+        ensures count { result ≡ steps_for w cpu self.now }
+        ensures few { result ≤ 3 }
+    {
+        let own = on_word(cpu as u64, w);
+        match self {
+            Word::Local | Word::Tick => own,
+            Word::Remote(other) => own + (own + on_word(count(other), w)),
+            Word::Idle => own + own,
+            Word::Update | Word::Pause(_) => 0,
+        }
+    }
 }
 
 impl Script {
@@ -80,11 +97,22 @@ impl Script {
         ensures count { result ≡ script_tickets (script_plan self.now) }
         ensures few { result ≤ 2 ^ 40 }
     {
-        let mut tickets = 0;
-        for word in self.words.items() {
-            tickets += word.tickets();
+        if self.repeat == 0 {
+            return 0;
         }
-        count(&self.repeat) * tickets
+        count(&self.repeat) * tickets_once(self.words.items())
+    }
+
+    /// The most steps that the words make on clock word `w`, on this CPU, after the repeats.
+    pub(crate) fn steps(&self, cpu: u32, w: u32) -> u32
+        requires { IsRunnable (script_plan self.now) }
+        ensures count { result ≡ script_steps w cpu (script_plan self.now) }
+        ensures few { result ≤ 3 * 65536 }
+    {
+        if self.repeat == 0 {
+            return 0;
+        }
+        count(&self.repeat) as u32 * steps_once(self.words.items(), cpu, w)
     }
 
     /// How many words there are after the repeats.
@@ -105,4 +133,40 @@ impl Script {
         let updates = self.words.items().iter().filter(|word| word.is_update());
         updates.count() as u64 * count(&self.repeat)
     }
+}
+
+/// How many tickets these words draw.
+fn tickets_once(words: &[Word]) -> u64
+    requires few { length words.now ≤ 65536 }
+    requires counts { All HasCount words.now }
+    ensures count { result ≡ sum_by tickets_of words.now }
+    ensures few { result ≤ length words.now * longest_pause }
+{
+    let mut tickets = 0;
+    for word in words {
+        tickets += word.tickets();
+    }
+    tickets
+}
+
+/// The most steps that these words make on clock word `w`, on this CPU.
+fn steps_once(words: &[Word], cpu: u32, w: u32) -> u32
+    requires few { length words.now ≤ 65536 }
+    requires counts { All HasCount words.now }
+    ensures count { result ≡ sum_by (steps_for w cpu) words.now }
+    ensures few { result ≤ length words.now * 3 }
+{
+    let mut steps = 0;
+    for word in words {
+        steps += word.steps(cpu, w);
+    }
+    steps
+}
+
+/// 1 for a step on clock word `w`, and 0 for one on another CPU's.
+fn on_word(cpu: u64, w: u32) -> u32
+    ensures count { result ≡ on_word cpu w }
+    ensures few { result ≤ 1 }
+{
+    if cpu == w as u64 { 1 } else { 0 }
 }

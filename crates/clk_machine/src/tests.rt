@@ -29,13 +29,24 @@ fn none<T>(alloc: Global) -> Result<List<T>, AllocError>
     List::with_room(alloc, 0)
 }
 
+/// A local reading, a tick, and a reading of CPU 1.
+fn words(alloc: Global) -> Result<List<Word>, AllocError>
+    ensures { IfOk result (λ l. length l.items ≡ 3) }
+{
+    let mut words = List::with_room(alloc, 3)?;
+    words.push(Word::Local);
+    words.push(Word::Tick);
+    words.push(Word::Remote(1));
+    Ok(words)
+}
+
 /// A CPU of 2.4 GHz in this socket that began at 300 cycles and goes back by 400 at 25 ns.
 fn cpu_in(alloc: Global, socket: i64) -> Result<CpuPart, AllocError>
     ensures { IfOk result (λ c. IsShortCpu (cpu_plan c)) }
 {
     let script = Script {
         repeat: 3,
-        words: one(alloc, Word::Tick)?,
+        words: words(alloc)?,
     };
     let jumps = one(alloc, Jump::new(25, -400))?;
     Ok(CpuPart {
@@ -110,11 +121,15 @@ fn jump_and_delay(rt: HostRuntime) -> Result<(), Fail> {
 }
 
 #[test]
-fn the_first_cpu_of_a_socket_has_its_own_timeout(rt: HostRuntime) -> Result<(), Fail> {
+fn timeouts_and_scripts(rt: HostRuntime) -> Result<(), Fail> {
     let machine = Machine::new(parts(rt.alloc(), none(rt.alloc())?)?).expect(&rt, "a machine");
     assert_eq!(rt; machine.base(), -7);
     assert_eq!(rt; machine.timeout(1), 0);
     assert_eq!(rt; machine.timeout(2), 1_000);
+    assert_eq!(rt; machine.threads(), 3);
+    assert_eq!(rt; machine.tickets(0), 15);
+    assert_eq!(rt; machine.steps(0, 0), 12);
+    assert_eq!(rt; machine.steps(0, 1), 3);
     Ok(())
 }
 

@@ -53,8 +53,7 @@ fn of_watchdog(parts: &Parts) -> u64
 
 /// Those of all scripts.
 fn of_words(parts: &Parts) -> u64
-    requires formed { IsWellFormed (plan_of parts.now) }
-    requires ranges { AreInRange (plan_of parts.now) }
+    requires { AreInRange (plan_of parts.now) }
     ensures count { result ≡ word_tickets (plan_of parts.now) }
     ensures few { result ≤ 2 ^ 47 }
 {

@@ -1,3 +1,4 @@
+//! Cycles become nanoseconds, and how many of them may.
 ghost use Rattle.std.specs.Prelude.{◌≡◌, ◌^◌, ◌<◌, ◌≤◌};
 ghost use Rattle.clk_num.specs.Conversion.{convert, wrap_time};
 

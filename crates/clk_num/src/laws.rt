@@ -1,3 +1,4 @@
+//! Laws of conversions, of masked differences, and of clock values.
 ghost use Rattle.clk_num.specs.Laws.{ConversionRises, ConversionAdds, ConversionIsTrue, SourceCyclesAreFew, MaskedDifferenceIsTrue, MaskedDifferenceIsNone, MaskedDifferenceIsShort, WordsAreInverse, WordsCompare, WordsInRange, ShiftIsGreatest, ProductsFit};
 ghost use Rattle.clk_num.specs.WrapLaws.{WrapsByTurns, WrapKeepsValues, HeightsAreValues, HeightsCompare, RaisesNeverFall, RaisesReach, RaisesAreGreatest, BitsAreInverse};
 

@@ -1,3 +1,4 @@
+//! A list whose memory is taken when it is made.
 ghost use Rattle.std.specs.Prelude.{◌≡◌, ◌↔◌, ℕ, ◌+◌, ◌<◌, [], ◌∷◌, ◌++◌, ◌-◌, length, IsTrue, IfOk, slice_index_or, vec_len, vec_capacity};
 ghost use Rattle.std.specs.Borrow.{sem};
 

@@ -1,3 +1,4 @@
+//! Counters of fewer than 64 bits, which start again at 0.
 ghost use Rattle.std.specs.Prelude.{◌≡◌, ◌≤◌};
 ghost use Rattle.clk_num.specs.Masked.{mask_of, masked_delta};
 

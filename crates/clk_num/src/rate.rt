@@ -1,3 +1,4 @@
+//! How mult and shift are chosen.
 ghost use Rattle.std.specs.Prelude.{◌≡◌, ◌*◌, ◌^◌, ◌<◌, ◌≤◌};
 ghost use Rattle.clk_num.specs.Rates.{mult_bits, quotient, mult_shift, source_rate, max_seconds};
 

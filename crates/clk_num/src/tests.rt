@@ -1,3 +1,4 @@
+//! Worked rows of each call.
 use crate::biased::{value_of, word_of};
 use crate::clamp::{clamp_local, target_local};
 use crate::conversion::{cyc_to_ns, max_nsecs};

@@ -22,7 +22,8 @@ use Rattle.clk_local.specs.Context.{Site, Known, MayStamp}
 use Rattle.clk_local.specs.Raising.{shown_on}
 use Rattle.clk_local.specs.Shows.{ShowsReading}
 use Rattle.clk_remote.specs.declared.event.RemoteEvent.TheVariants.{Coupled}
-use Rattle.clk_remote.specs.Coupling.{is_lower, lower_word, higher_value, coupling, coupling_step}
+use Rattle.clk_remote.specs.Coupling.{higher_value, coupling, coupling_step}
+use Rattle.clk_words.specs.LowerWord.{is_lower, lower_word}
 use Rattle.clk_remote.specs.Shows.{ShowsCoupling, ShowsRemote}
 
 -- ---- the two loads

@@ -10,7 +10,8 @@ use Rattle.clk_words.specs.Bounds.{IsClock}
 use Rattle.clk_words.specs.Histories.{opens_at, value_after}
 use Rattle.clk_words.proofs.Replay.{clock_near, legal_range}
 use Rattle.clk_local.specs.Context.{Site, Known}
-use Rattle.clk_remote.specs.Coupling.{is_lower, higher_value}
+use Rattle.clk_remote.specs.Coupling.{higher_value}
+use Rattle.clk_words.specs.LowerWord.{is_lower}
 use Rattle.clk_remote.specs.Shows.{ShowsCoupling}
 use Rattle.clk_remote.specs.Laws.{ReachesBoth}
 use Rattle.clk_remote.proofs.Coupling.{shown_after}

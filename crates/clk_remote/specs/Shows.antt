@@ -14,7 +14,8 @@ use Rattle.clk_local.specs.Raising.{shown_on}
 use Rattle.clk_local.specs.Shows.{ShowsLook, ShowsStable, ShowsRaised}
 use Rattle.clk_remote.specs.declared.event.RemoteEvent.{RemoteEvent}
 use Rattle.clk_remote.specs.declared.event.RemoteEvent.TheVariants.{Stable, Coupled}
-use Rattle.clk_remote.specs.Coupling.{lower_value, coupling_step}
+use Rattle.clk_remote.specs.Coupling.{coupling_step}
+use Rattle.clk_words.specs.LowerWord.{lower_value}
 
 -- both words: the own one, and then that of the CPU asked
 pub record LoadsBoth (v : View) (cpu asked : ℕ) (own other : ℤ) (w : View) : Type 0 where

@@ -1,3 +1,4 @@
+//! What it means that blocks cover numbers.
 ghost use Rattle.clk_ticket.specs.Laws.{CoveringBlocks};
 
 /// What it means that blocks cover the numbers below `n`: no number stands in two of them, each number below `n` stands

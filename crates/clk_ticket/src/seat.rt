@@ -1,3 +1,4 @@
+//! A thread's place at the word of tickets.
 ghost use Rattle.std.specs.Prelude.{◌≡◌};
 
 use crate::rule::Knows;

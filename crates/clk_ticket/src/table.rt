@@ -1,3 +1,4 @@
+//! The word of tickets, and what its last number is.
 ghost use Rattle.std.specs.Prelude.{◌≡◌, ◌≤◌, IfOk};
 ghost use Rattle.clk_base.specs.Blocks.{Covers};
 ghost use Rattle.clk_ticket.specs.Sizes.{most_tickets, size_of};

@@ -1,3 +1,4 @@
+//! Threads that draw at once, and what their blocks cover.
 ghost use Rattle.std.specs.Prelude.{◌≡◌, ◌*◌, IfOk, All, vec_len};
 ghost use Rattle.clk_ticket.specs.Time.{fresh, share_of};
 

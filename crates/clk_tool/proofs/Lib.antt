@@ -10,6 +10,7 @@ pub mod Rising
 pub mod RunBlocks
 pub mod RunHistory
 pub mod RunKeeping
+pub mod RunModes
 pub mod RunPairs
 pub mod RunReadings
 pub mod RunSteps

@@ -14,25 +14,21 @@ use Rattle.clk_machine.specs.declared.script.Word.TheVariants as word
 use Rattle.clk_local.specs.Context.{Site, site_of, known_of, Keeps}
 use Rattle.clk_words.specs.declared.opening.Start.{Start}
 use Rattle.clk_trace.specs.ScriptEvents.{Calls, events_at, AreEventsOf}
-use Rattle.clk_trace.specs.WordHistory.{Step, steps_from}
+use Rattle.clk_trace.specs.WordHistory.{steps_from, line_of}
 use Rattle.clk_trace.specs.declared.event.Event.{Event}
 use Rattle.clk_trace.specs.declared.event.EventKind.{EventKind}
-use Rattle.clk_trace.specs.declared.trace.HistoryStep.{HistoryStep}
 use Rattle.clk_tool.specs.Built.{words_of}
 use Rattle.clk_tool.specs.Running.{IsSound, site, Runs}
 use Rattle.clk_tool.specs.Making.{machine_of, known, Serves, IsReady, StandsOn, KeepsEvents, Spends, updates_in, MakesWord, HasMade}
 use Rattle.clk_tool.specs.declared.thread.Thread.{Thread}
 use Rattle.clk_tool.proofs.Showing.{runs-append, spends_both}
 
--- the line of a step
-abbrev line_of : Step → HistoryStep
-line_of s = s.line
-
-pub steps_from-append : (thread part : ℕ) (es fs : List Event) → steps_from thread part (es ++ fs) ≡ steps_from thread part es ++ steps_from thread (part + length es) fs
-steps_from-append thread part [] fs = let e : part + 0 ≡ part = omega arith in rw e
-steps_from-append thread part (e ∷ es) fs =
+pub steps_from-append : (thread cpu part : ℕ) (es fs : List Event)
+    → steps_from thread cpu part (es ++ fs) ≡ steps_from thread cpu part es ++ steps_from thread cpu (part + length es) fs
+steps_from-append thread cpu part [] fs = let e : part + 0 ≡ part = omega arith in rw e
+steps_from-append thread cpu part (e ∷ es) fs =
     let f : part + length (e ∷ es) ≡ part + 1 + length es = omega arith in
-    rw (f, steps_from-append thread (part + 1) es fs, append_assoc)
+    rw (f, steps_from-append thread cpu (part + 1) es fs, append_assoc)
 
 -- the thread of CPU 0 makes its calls there
 pub site_is : (t : Thread) → IsReady t → site_of t.ctx ≡ site (machine_of t) t.ctx.call
@@ -72,6 +68,7 @@ made word kinds steps v u w calls same call runs spends stands ready keeps few s
     record {
       kinds = kinds;
       calls = calls;
+      few = few;
       makes = record {
         events = rw (events, call) at keeps.events;
         runs = rw now runs;
@@ -102,7 +99,7 @@ keeps_both call ks ls a b u x w p q =
     record {
       events = rw (q.events, p.events, all, append_assoc);
       history =
-          rw (all, steps_from-append 0 (length u.events.items) (events_at call ks) (events_at call ls), map-append line_of, q.history, p.history, append_assoc, grown);
+          rw (all, steps_from-append 0 0 (length u.events.items) (events_at call ks) (events_at call ls), map-append line_of, q.history, p.history, append_assoc, grown);
       ctx = q.ctx ∙ p.ctx;
       events_room = rw length-append (omega (arith, p_room, q_room));
       history_room = omega (arith, p_steps, q_steps);
@@ -110,11 +107,12 @@ keeps_both call ks ls a b u x w p q =
 
 -- a remote reading of the one CPU
 pub word_remote : (d : ℤ) (v w : Thread) → IsInRange 1 (word.Remote d) → MakesWord word.Local v w → MakesWord (word.Remote d) v w
-word_remote d v w (own, low) a =
+word_remote d v w (_, low) a =
     let zero : count_of d ≡ 0 = omega (arith, low) in
     record {
       kinds = a.kinds;
-      calls = (own ∙ ap pos zero, a.calls);
+      calls = rw zero a.calls;
+      few = a.few;
       makes = a.makes;
       spends = a.spends;
       events_room = a.events_room;
@@ -140,15 +138,6 @@ AreEventsOf-push m [] es w ks a calls =
 AreEventsOf-push m (u ∷ ws) es w ks a calls =
     let e : m + length (u ∷ ws) ≡ m + 1 + length ws = omega arith in
     rw (e, a.2) (a.0, a.1 ++ events_at (m + 1 + length ws) ks, append_assoc (events_at m a.0) a.1 (events_at (m + 1 + length ws) ks), a.3, AreEventsOf-push (m + 1) ws a.1 w ks a.4 calls)
-
--- a word calls for three events at most
-calls_few : (w : Word) (ks : List EventKind) → Calls 0 w ks → length ks ≤ 3
-calls_few word.Local ks c = rw c.1 (omega arith)
-calls_few (word.Remote d) ks c = rw c.1.1 (omega arith)
-calls_few word.Idle ks c = rw c.3 (omega arith)
-calls_few word.Update ks c = rw c.1 (omega arith)
-calls_few word.Tick ks c = rw c.2 (omega arith)
-calls_few (word.Pause n) ks c = rw c.1 (omega arith)
 
 -- the thread for the next call: its number changes, and nothing else
 pub record IsNext (n : ℕ) (t u : Thread) : Type 0 where
@@ -204,7 +193,7 @@ has_made_more start n t u w word low is h next a =
     let words : List Word = words_of (machine_of start) in
     let grown : take (n + 1) words ≡ take n words ++ word ∷ [] = (let more = take_more words n word low in rw (← is) at more) in
     let len : length (take n words) ≡ n = length-take-le n words (omega arith) in
-    let few = calls_few word a.kinds a.calls in
+    let few = a.few in
     let evs : length (events_at n a.kinds) ≡ length a.kinds = length-map a.kinds (λ k. record { call = n; kind = k }) in
     let same : u.events ≡ t.events = ap (λ (x : Thread). x.events) next.is in
     let kept : u.history ≡ t.history = ap (λ (x : Thread). x.history) next.is in
@@ -216,7 +205,7 @@ has_made_more start n t u w word low is h next a =
     record {
       script = rw (grown, events) (let s = AreEventsOf-push 0 (take n words) t.events.items word a.kinds h.script a.calls in rw (zero-add, len) at s);
       runs = rw events (runs-append (machine_of start) (known start) t.events.items (known t) (events_at n a.kinds) (known w) h.runs made);
-      history = rw (history, events, h.history, steps_from-append 0 0 t.events.items (events_at n a.kinds), zero-add, map-append line_of);
+      history = rw (history, events, h.history, steps_from-append 0 0 0 t.events.items (events_at n a.kinds), zero-add, map-append line_of);
       spent =
           rw (grown, sum_by_push tickets_of (take n words) word, sum_by_push updates_in (take n words) word)
           (spends_both (sum_by tickets_of (take n words)) (sum_by updates_in (take n words)) (tickets_of word) (updates_in word) (known start) (known t) (known w) h.spent spends);

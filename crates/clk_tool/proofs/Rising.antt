@@ -32,14 +32,18 @@ raise_is_up opening old value from to =
 -- ---- the order of two steps
 
 -- one that left its word higher comes later
-higher_later : (a b : ℤ) (p q : Bool) (s t c d k l : ℕ) → b <ℤ a
-    → is_lt (ordering_then (ordering_then (ordering_then (ordering_then (int_cmp a b) (bool_cmp p q)) (nat_cmp s t)) (nat_cmp c d)) (nat_cmp k l)) ≡ false
-higher_later a b p q s t c d k l up = grind (arith, ints, nat_tests)
+higher_later : (a b : ℤ) (p q : Bool) (s t c d k l : ℕ) (x y : ℤ) → b <ℤ a
+    → is_lt
+    (ordering_then
+    (ordering_then (ordering_then (ordering_then (ordering_then (int_cmp a b) (bool_cmp p q)) (nat_cmp s t)) (nat_cmp c d)) (nat_cmp k l)) (int_cmp x y)) ≡ false
+higher_later a b p q s t c d k l x y up = grind (arith, ints, nat_tests)
 
 -- one that left it as high, made no change, and stands later in the same thread, does not come first
-flat_later : (a b : ℤ) (q : Bool) (s t c d k l : ℕ) → a ≡ b → s ≡ t → d ≤ c → l < k
-    → is_lt (ordering_then (ordering_then (ordering_then (ordering_then (int_cmp a b) (bool_cmp true q)) (nat_cmp s t)) (nat_cmp c d)) (nat_cmp k l)) ≡ false
-flat_later a b q s t c d k l as_high thread call part = grind (arith, ints, nat_tests)
+flat_later : (a b : ℤ) (q : Bool) (s t c d k l : ℕ) (x y : ℤ) → a ≡ b → s ≡ t → d ≤ c → l < k
+    → is_lt
+    (ordering_then
+    (ordering_then (ordering_then (ordering_then (ordering_then (int_cmp a b) (bool_cmp true q)) (nat_cmp s t)) (nat_cmp c d)) (nat_cmp k l)) (int_cmp x y)) ≡ false
+flat_later a b q s t c d k l x y as_high thread call part = grind (arith, ints, nat_tests)
 
 -- of two steps of one thread the later one, which starts where the earlier one ended, does not come first
 pub not_before : (opening : ℤ) (x y : HistoryStep) → x.new ≡ y.old → IsUp opening y.old y.new → x.thread ≡ y.thread → x.call ≤ y.call → x.part < y.part
@@ -49,11 +53,11 @@ not_before opening x y joined up thread call part =
       | inl same ↦
           let flat : is_flat y ≡ true = (Decides-int_eq y.old y.new).1 same in
           rw flat (
-          flat_later (above y.new opening) (above x.new opening) (is_flat x) y.thread x.thread y.call x.call y.part x.part
+          flat_later (above y.new opening) (above x.new opening) (is_flat x) y.thread x.thread y.call x.call y.part x.part y.old x.old
           (ap (λ z. above z opening) (sym (joined ∙ same))) (sym thread) call part
           )
       | inr more ↦
-          higher_later (above y.new opening) (above x.new opening) (is_flat y) (is_flat x) y.thread x.thread y.call x.call y.part x.part
+          higher_later (above y.new opening) (above x.new opening) (is_flat y) (is_flat x) y.thread x.thread y.call x.call y.part x.part y.old x.old
           (subst (λ z. above z opening <ℤ above y.new opening) (sym joined) more)
     ]
 

@@ -8,15 +8,18 @@ use Rattle.clk_local.specs.Context.{Known}
 use Rattle.clk_trace.specs.TicketOrder.{one, blocks_of, blocks_of_kind}
 use Rattle.clk_trace.specs.declared.event.Event.{Event}
 use Rattle.clk_trace.specs.declared.event.EventKind.{EventKind}
-use Rattle.clk_trace.specs.declared.event.EventKind.TheVariants.{Local, Stamp, Update, Pause}
+use Rattle.clk_trace.specs.declared.event.EventKind.TheVariants.{Stable, Local, Couple, Stamp, Nothing, Update, Pause}
 use Rattle.clk_tool.specs.Running.{Shows, Runs}
 
 -- one event
 shows_blocks : (m : Plan) (call : ℕ) (v : Known) (k : EventKind) (w : Known) → Shows m call v k w → w.time.blocks ≡ v.time.blocks ++ blocks_of_kind k
+shows_blocks m call v (Stable raw value) w h = absurd h
 shows_blocks m call v (Local raw tick_raw tick_gtod offset old new) w h = ap (λ (t : Time). t.blocks) h.raised.reads.draws.is
+shows_blocks m call v (Couple asked own other word old new) w h = absurd h
 shows_blocks m call v (Stamp gtod_ticket gtod raw) w h =
     ap (λ (t : Time). t.blocks) h.reads.draws.is ∙ ap (λ (t : Time). t.blocks ++ one raw.ticket ∷ []) h.draws.is
     ∙ append_assoc v.time.blocks (one gtod_ticket ∷ []) (one raw.ticket ∷ [])
+shows_blocks m call v Nothing w h = absurd h
 shows_blocks m call v (Update p) w h = ap (λ (t : Time). t.blocks) h.draws.is
 shows_blocks m call v (Pause ticket count) w h = ap (λ (t : Time). t.blocks) h.draws.is
 

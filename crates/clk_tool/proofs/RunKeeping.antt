@@ -11,7 +11,7 @@ use Rattle.clk_local.specs.Raising.{FindsPair}
 use Rattle.clk_local.specs.Shows.{ShowsRaised}
 use Rattle.clk_trace.specs.declared.event.Event.{Event}
 use Rattle.clk_trace.specs.declared.event.EventKind.{EventKind}
-use Rattle.clk_trace.specs.declared.event.EventKind.TheVariants.{Local, Stamp, Update, Pause}
+use Rattle.clk_trace.specs.declared.event.EventKind.TheVariants.{Stable, Local, Couple, Stamp, Nothing, Update, Pause}
 use Rattle.clk_tool.specs.Running.{Shows, HasLooked, Runs}
 
 -- the part of a view that loads, steps and stamps leave
@@ -34,8 +34,11 @@ raised_fixed z v w raw step h =
     ap fixed h.raises.makes.view_is ∙ ap fixed h.finds_offset.view_is ∙ pair_fixed v.view h.pair h.tick_raw h.tick_gtod h.finds
 
 pub shows_fixed : (m : Plan) (call : ℕ) (v : Known) (k : EventKind) (w : Known) → Shows m call v k w → fixed w.view ≡ fixed v.view
+shows_fixed m call v (Stable raw value) w h = absurd h
 shows_fixed m call v (Local raw tick_raw tick_gtod offset old new) w h = raised_fixed _ v w raw h.step h.raised
+shows_fixed m call v (Couple asked own other word old new) w h = absurd h
 shows_fixed m call v (Stamp gtod_ticket gtod raw) w h = ap fixed h.view_is
+shows_fixed m call v Nothing w h = absurd h
 shows_fixed m call v (Update p) w h = ap fixed h.view_is
 shows_fixed m call v (Pause ticket count) w h = ap fixed h.view_is
 

@@ -1,5 +1,6 @@
 -- Each reading of a run names the pair of its thread's last stamp, as the owner's view of the clock words tells.
 use Rattle.std.proofs.Common.{◌≡◌, ◌≢◌, ℕ, ℤ, true, List, [], ◌∷◌, ◌++◌, Some, ap, ◌∙◌, sym, subst, arith, append-nil}
+use Rattle.clk_base.specs.Walk.{Along}
 use Rattle.clk_words.specs.declared.opening.Start.{Start}
 use Rattle.clk_words.specs.declared.step.Step.{Step}
 use Rattle.clk_words.specs.declared.step.Why.{Why}
@@ -15,10 +16,11 @@ use Rattle.clk_words.proofs.Registers.{put_here, put_else, last_more}
 use Rattle.clk_machine.specs.Plan.{Plan}
 use Rattle.clk_machine.specs.declared.reading.RawReading.{RawReading}
 use Rattle.clk_local.specs.Context.{Known}
-use Rattle.clk_trace.specs.LegalHistory.{Pair, pair_after, NamesPair, NamesLastStamps}
+use Rattle.clk_trace.specs.Stamps.{Pair, pair_after, NamesPair}
 use Rattle.clk_trace.specs.declared.event.Event.{Event}
 use Rattle.clk_trace.specs.declared.event.EventKind.{EventKind}
-use Rattle.clk_trace.specs.declared.event.EventKind.TheVariants.{Local, Stamp, Update, Pause}
+use Rattle.clk_trace.specs.declared.event.EventKind.TheVariants.{Stable, Local, Stamp, Nothing, Update, Pause}
+use Rattle.clk_trace.specs.declared.event.EventKind.TheVariants as event
 use Rattle.clk_tool.specs.Running.{Shows, ShowsLocal, HasLooked, Runs, site}
 use Rattle.clk_tool.proofs.RunSteps.{IsHome, home_looked, home_next}
 
@@ -109,7 +111,9 @@ local_pair m start call v w raw tick_raw tick_gtod offset old new p home h ends 
 
 shows_pair : (m : Plan) (start : Start) (call : ℕ) (v : Known) (k : EventKind) (w : Known) (p : Pair) → IsHome start v.view → Shows m call v k w → EndsWith v.view p
     → NamesPair start.opening.offset p k × EndsWith w.view (pair_after p k)
+shows_pair m start call v (Stable raw value) w p home h ends = absurd h
 shows_pair m start call v (Local raw tick_raw tick_gtod offset old new) w p home h ends = local_pair m start call v w raw tick_raw tick_gtod offset old new p home h ends
+shows_pair m start call v (event.Couple asked own other word old new) w p home h ends = absurd h
 shows_pair m start call v (Stamp gtod_ticket gtod raw) w p home h ends =
     let half : View = stamped (gtod_of 0) gtod v.view in
     let gtod_half = stamped_here v.view (gtod_of 0) gtod p.gtod ends.gtod in
@@ -121,6 +125,7 @@ shows_pair m start call v (Stamp gtod_ticket gtod raw) w p home h ends =
       owner = ends.owner;
     } in
     (tt, subst (λ (x : View). EndsWith x (record { raw = raw.ns; gtod = gtod })) (sym h.view_is) whole)
+shows_pair m start call v Nothing w p home h ends = absurd h
 shows_pair m start call v (Update q) w p home h ends = (tt, subst (λ (x : View). EndsWith x p) (sym h.view_is) ends)
 shows_pair m start call v (Pause ticket count) w p home h ends = (tt, subst (λ (x : View). EndsWith x p) (sym h.view_is) ends)
 
@@ -129,7 +134,7 @@ ends_looked : (v w : Known) (p : Pair) → HasLooked v w → EndsWith v.view p �
 ends_looked v w p h ends = subst (λ (x : View). EndsWith x p) (sym h.view_is) (record { raw = ends.raw; gtod = ends.gtod; owner = ends.owner })
 
 pub runs_name : (m : Plan) (start : Start) (v : Known) (es : List Event) (w : Known) (p : Pair) → IsHome start v.view → Runs m v es w → EndsWith v.view p
-    → NamesLastStamps start.opening.offset p es
+    → Along (λ q e. NamesPair start.opening.offset q e.kind) (λ q e. pair_after q e.kind) p es
 runs_name m start v [] w p home r ends = tt
 runs_name m start v (e ∷ es) w p home r ends =
     let here = shows_pair m start e.call r.0 e.kind r.1 p (home_looked start v r.0 r.2 home) r.3 (ends_looked v r.0 p r.2 ends) in

@@ -1,5 +1,5 @@
 -- What the calls of clk_local show, as events.
-use Rattle.std.proofs.Common.{◌≡◌, ℕ, ◌+◌, ◌≤◌, inr, List, [], ◌∷◌, ◌++◌, ap, ◌∙◌, sym, refl, arith}
+use Rattle.std.proofs.Common.{◌≡◌, ℕ, ◌+◌, ◌≤◌, ℤ, inr, List, [], ◌∷◌, ◌++◌, ap, ◌∙◌, sym, refl, arith}
 use Rattle.clk_ticket.specs.Time.{Time}
 use Rattle.clk_machine.specs.Plan.{Plan}
 use Rattle.clk_machine.specs.declared.reading.RawReading.{RawReading}
@@ -17,7 +17,7 @@ use Rattle.clk_local.specs.declared.events.Reading.TheVariants.{Stable, PerCpu}
 use Rattle.clk_local.specs.declared.events.IdleEvent.{IdleEvent}
 use Rattle.clk_local.specs.declared.events.TickEvent.{TickEvent}
 use Rattle.clk_local.specs.declared.events.TickEvent.TheVariants.{Nothing, Ticked}
-use Rattle.clk_trace.specs.ScriptEvents.{IsLocal, IsStamp, events_at}
+use Rattle.clk_trace.specs.ScriptEvents.{IsReading, IsTick, IsIdle, events_at}
 use Rattle.clk_trace.specs.declared.event.Event.{Event}
 use Rattle.clk_trace.specs.declared.event.EventKind.{EventKind}
 use Rattle.clk_trace.specs.declared.event.EventKind.TheVariants.{Local, Stamp}
@@ -61,10 +61,11 @@ showed_both m total call a b ks ls v u w p q same =
       sound = q.sound;
     }
 
--- a reading is one local event
+-- a reading is one local event, which is that of a tick after a stamp
 pub record ShowedLocal (m : Plan) (total call : ℕ) (kinds : List EventKind) (v w : Known) : Type 0 where
   pub kind : EventKind
-  pub is : IsLocal kind
+  pub is : IsReading (kind ∷ [])
+  pub ticks : (gtod_ticket : ℕ) (gtod : ℤ) (stamp : RawReading) → IsTick (Stamp gtod_ticket gtod stamp ∷ kind ∷ [])
   pub kinds_are : kinds ≡ kind ∷ []
   pub showed : Showed m total call 1 (kind ∷ []) v w
 
@@ -79,6 +80,7 @@ showed_step m total call v t w raw step sound left looks h =
     record {
       kind = Local raw h.tick_raw h.tick_gtod h.offset step.old step.new;
       is = tt;
+      ticks = λ gtod_ticket gtod stamp. tt;
       kinds_are = ap (λ (y : Why). kinds_of_why raw y step.old step.new) why;
       showed = record {
         runs = (t, w, looks, record { step = step; raised = h; why_is = why; old_is = refl; new_is = refl }, refl);
@@ -102,8 +104,7 @@ showed_reading m total call v w r sound left percpu h =
 pub record ShowedTick (m : Plan) (total call : ℕ) (kinds : List EventKind) (v w : Known) : Type 0 where
   pub stamp : EventKind
   pub kind : EventKind
-  pub is_stamp : IsStamp stamp
-  pub is : IsLocal kind
+  pub is : IsTick (stamp ∷ kind ∷ [])
   pub kinds_are : kinds ≡ stamp ∷ kind ∷ []
   pub showed : Showed m total call 3 (stamp ∷ kind ∷ []) v w
 
@@ -128,8 +129,7 @@ on_tick m total call v t w (Ticked gtod_ticket gtod stamp raw step) sound left i
     record {
       stamp = kind;
       kind = later.kind;
-      is_stamp = tt;
-      is = later.is;
+      is = later.ticks gtod_ticket gtod stamp;
       kinds_are = ap (λ (ks : List EventKind). kind ∷ ks) later.kinds_are;
       showed = showed_both m total call 2 1 (kind ∷ []) (later.kind ∷ []) v u w one later.showed refl;
     }
@@ -145,9 +145,7 @@ pub record ShowedIdle (m : Plan) (total call : ℕ) (e : IdleEvent) (v w : Known
   pub kind : EventKind
   pub stamp : EventKind
   pub after : EventKind
-  pub is : IsLocal kind
-  pub is_stamp : IsStamp stamp
-  pub is_after : IsLocal after
+  pub is : IsIdle (kind ∷ stamp ∷ after ∷ [])
   pub first : kinds_of_reading e.read ≡ kind ∷ []
   pub second : kinds_of_tick e.tick ≡ stamp ∷ after ∷ []
   pub showed : Showed m total call 4 (kind ∷ stamp ∷ after ∷ []) v w
@@ -165,9 +163,7 @@ showed_idle m total call v w e sound left percpu h =
       kind = one.kind;
       stamp = two.stamp;
       after = two.kind;
-      is = one.is;
-      is_stamp = two.is_stamp;
-      is_after = two.is;
+      is = (one.is, two.is);
       first = one.kinds_are;
       second = two.kinds_are;
       showed = showed_both m total call 1 3 (one.kind ∷ []) (two.stamp ∷ two.kind ∷ []) v u w one.showed two.showed refl;

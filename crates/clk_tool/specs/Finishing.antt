@@ -1,6 +1,7 @@
 -- What a whole run is made of.
 use Rattle.std.specs.Prelude.{◌≡◌, ◌^◌, true, ℤ, pos, ◌+ℤ◌, List, [], ◌∷◌, map}
 use Rattle.clk_base.specs.Blocks.{Covers}
+use Rattle.clk_base.specs.Walk.{EachFrom}
 use Rattle.clk_num.specs.Listed.{Listed}
 use Rattle.clk_num.specs.Range.{IsFrom0To}
 use Rattle.clk_num.specs.Wrapping.{wrap}
@@ -15,8 +16,7 @@ use Rattle.clk_machine.specs.Limits.{most_tickets, IsWithinLimits}
 use Rattle.clk_machine.specs.Records.{above_base}
 use Rattle.clk_local.specs.Context.{Known, BeginsAtBase, MayStamp}
 use Rattle.clk_trace.specs.ScriptEvents.{AreEventsOf}
-use Rattle.clk_trace.specs.WordHistory.{steps_from}
-use Rattle.clk_trace.specs.LawfulTrace.{EachFrom}
+use Rattle.clk_trace.specs.WordHistory.{steps_from, line_of}
 use Rattle.clk_trace.specs.declared.event.Event.{Event}
 use Rattle.clk_trace.specs.declared.trace.HistoryStep.{HistoryStep}
 use Rattle.clk_trace.specs.declared.trace.Trace.{Trace}
@@ -49,7 +49,7 @@ pub record MayRun (s : Shared) (v : Seats) : Type 0 where
 pub record HasRun (s : Shared) (v : Seats) (r : Ran) : Type 0 where
   pub script : AreEventsOf 0 0 (words_of s.machine) r.events.items
   pub runs : Runs s.machine (known_by v) r.events.items (known_by r.seats)
-  pub steps : r.history.items ≡ map (λ s. s.line) (steps_from 0 0 r.events.items)
+  pub steps : r.history.items ≡ map line_of (steps_from 0 0 0 r.events.items)
   pub words : place_of r.seats.owner ≡ s.words
   pub tickets : r.seats.time.table ≡ s.tickets.table
   pub sound : IsSound s.machine s.tickets.total r.seats.latch.epoch r.seats.time
@@ -95,13 +95,14 @@ pub record IsRunOf (m : Plan) (t : Trace) (closed : List Step) : Type 0 where
   pub finished : Covers after.time.blocks t.tickets
   pub closed_is : closed ≡ after.view.mine
   pub chain : IsChain (opens_at (start_of m boot.stamp)) (steps_on 0 after.view.mine)
-  pub steps : history.items ≡ map (λ s. s.line) (steps_from 0 0 events.items)
+  pub steps : history.items ≡ map line_of (steps_from 0 0 0 events.items)
   pub epoch_ticket : t.epoch_ticket ≡ boot.epoch.ticket
   pub epoch_cyc : t.epoch_cyc ≡ boot.epoch.cyc
   pub boots : t.boots.items ≡ boot.stamp ∷ []
   pub starts : t.starts ≡ PerCpu
   pub sched_offset : t.sched_offset ≡ pos 0
   pub gtod_offset : t.gtod_offset ≡ boot.stamp.offset
+  pub ups : t.ups.cpus.items ≡ []
   pub start_word : t.start_word ≡ wrap (boot.stamp.gtod +ℤ boot.stamp.offset)
   pub cpu_of : t.cpu_of.items ≡ 0 ∷ []
   pub threads : t.threads.items ≡ events ∷ []

@@ -10,7 +10,7 @@ use Rattle.clk_latch.specs.Epoch.{Epoch}
 use Rattle.clk_local.specs.Context.{Known, known_of, IsUsable, MayStamp}
 use Rattle.clk_local.specs.declared.context.Ctx.{Ctx}
 use Rattle.clk_trace.specs.ScriptEvents.{Calls, events_at, AreEventsOf}
-use Rattle.clk_trace.specs.WordHistory.{steps_from}
+use Rattle.clk_trace.specs.WordHistory.{steps_from, line_of}
 use Rattle.clk_trace.specs.declared.event.Event.{Event}
 use Rattle.clk_trace.specs.declared.event.EventKind.{EventKind}
 use Rattle.clk_tool.specs.Built.{words_of}
@@ -48,7 +48,7 @@ pub record StandsOn (v w : Thread) : Type 0 where
 -- events of some kinds were kept, and the lines of their steps; no more than so many steps
 pub record KeepsEvents (call : ℕ) (kinds : List EventKind) (steps : ℕ) (v w : Thread) : Type 0 where
   pub events : w.events.items ≡ v.events.items ++ events_at call kinds
-  pub history : w.history.items ≡ v.history.items ++ map (λ s. s.line) (steps_from 0 (length v.events.items) (events_at call kinds))
+  pub history : w.history.items ≡ v.history.items ++ map line_of (steps_from 0 0 (length v.events.items) (events_at call kinds))
   pub ctx : w.ctx ≡ v.ctx
   pub events_room : v.events.room ≤ w.events.room + length kinds
   pub history_room : v.history.room ≤ w.history.room + steps
@@ -62,16 +62,17 @@ pub record Spends (tickets updates : ℕ) (v w : Known) : Type 0 where
 pub record Makes (v : Thread) (es : List Event) (w : Thread) : Type 0 where
   pub events : w.events.items ≡ v.events.items ++ es
   pub runs : Runs (machine_of v) (known v) es (known w)
-  pub history : w.history.items ≡ v.history.items ++ map (λ s. s.line) (steps_from 0 (length v.events.items) es)
+  pub history : w.history.items ≡ v.history.items ++ map line_of (steps_from 0 0 (length v.events.items) es)
 
 -- the updates of one script word
 abbrev pub updates_in : Word → ℕ
 updates_in word = if is_update word then 1 else 0
 
--- for one word of a script: the events that it calls for, within its tickets and the room of the lists
+-- for one word of a script: the events that it calls for, three at most, within its tickets and the room of the lists
 pub record MakesWord (word : Word) (v w : Thread) : Type 0 where
   pub kinds : List EventKind
   pub calls : Calls 0 word kinds
+  pub few : length kinds ≤ 3
   pub makes : Makes v (events_at v.ctx.call kinds) w
   pub spends : Spends (tickets_of word) (updates_in word) (known v) (known w)
   pub events_room : v.events.room ≤ w.events.room + 3
@@ -83,7 +84,7 @@ pub record MakesWord (word : Word) (v w : Thread) : Type 0 where
 pub record HasMade (start : Thread) (n : ℕ) (t : Thread) : Type 0 where
   pub script : AreEventsOf 0 0 (take n (words_of (machine_of start))) t.events.items
   pub runs : Runs (machine_of start) (known start) t.events.items (known t)
-  pub history : t.history.items ≡ map (λ s. s.line) (steps_from 0 0 t.events.items)
+  pub history : t.history.items ≡ map line_of (steps_from 0 0 0 t.events.items)
   pub spent : Spends (sum_by tickets_of (take n (words_of (machine_of start)))) (sum_by updates_in (take n (words_of (machine_of start)))) (known start) (known t)
   pub few : length t.events.items ≤ 3 * n
   pub events_room : 3 * length (words_of (machine_of start)) ≤ t.events.room + 3 * n

@@ -19,7 +19,8 @@ use Rattle.clk_local.specs.declared.events.TickEvent.{TickEvent}
 use Rattle.clk_local.specs.declared.events.TickEvent.TheVariants.{Nothing, Ticked}
 use Rattle.clk_trace.specs.declared.event.Event.{Event}
 use Rattle.clk_trace.specs.declared.event.EventKind.{EventKind}
-use Rattle.clk_trace.specs.declared.event.EventKind.TheVariants.{Local, Stamp, Update, Pause}
+use Rattle.clk_trace.specs.declared.event.EventKind.TheVariants.{Local, Couple, Stamp, Update, Pause}
+use Rattle.clk_trace.specs.declared.event.EventKind.TheVariants as kind
 
 -- where the thread of CPU 0 makes a call
 abbrev pub site : Plan → ℕ → Site
@@ -72,10 +73,14 @@ pub record ShowsPause (v : Known) (ticket count : ℕ) (w : Known) : Type 0 wher
   pub epoch_is : w.epoch ≡ v.epoch
   pub view_is : w.view ≡ v.view
 
--- the event of this call took the seats from v to w
+-- the event of this call took the seats from v to w; the thread of a run per CPU, alone, makes no event of the stable clock
+-- and no coupling
 abbrev pub Shows : Plan → ℕ → Known → EventKind → Known → Type 0
+Shows m call v (kind.Stable raw value) w = ⊥
 Shows m call v (Local raw tick_raw tick_gtod offset old new) w = ShowsLocal (site m call) v raw tick_raw tick_gtod offset old new w
+Shows m call v (Couple asked own other word old new) w = ⊥
 Shows m call v (Stamp gtod_ticket gtod raw) w = ShowsStamp (site m call) v gtod_ticket gtod raw w
+Shows m call v kind.Nothing w = ⊥
 Shows m call v (Update p) w = ShowsUpdate m v p w
 Shows m call v (Pause ticket count) w = ShowsPause v ticket count w
 

@@ -11,6 +11,7 @@ ghost use Rattle.clk_tool.specs.Room.{HasRoom};
 use crate::boot::{Boot, Seats, boot_machine};
 use crate::shared::Shared;
 use crate::thread::Thread;
+use clk_adjust::{BroughtUp, CpuUp};
 use clk_machine::{Gate, Machine};
 use clk_num::List;
 use clk_trace::{Event, HistoryStep, StableStamp, Trace};
@@ -21,6 +22,7 @@ use std::alloc::{AllocError, Global};
 #[derive(Drop)]
 pub struct Lists {
     pub boots: List<StableStamp>,
+    pub ups: List<CpuUp>,
     pub cpu_of: List<u32>,
     pub threads: List<List<Event>>,
     pub histories: List<List<HistoryStep>>,
@@ -36,6 +38,7 @@ impl Lists {
     {
         Ok(Lists {
             boots: List::with_room(alloc, 1)?,
+            ups: List::with_room(alloc, 0)?,
             cpu_of: List::with_room(alloc, 1)?,
             threads: List::with_room(alloc, 1)?,
             histories: List::with_room(alloc, 1)?,
@@ -87,6 +90,7 @@ fn run_in<G: Gate>(boot: Boot, lists: Lists, gate: &G) -> Finished
     } = boot;
     let Lists {
         mut boots,
+        ups,
         mut cpu_of,
         mut threads,
         mut histories,
@@ -105,6 +109,10 @@ fn run_in<G: Gate>(boot: Boot, lists: Lists, gate: &G) -> Finished
         starts: Mode::PerCpu,
         sched_offset: 0,
         gtod_offset: stamp.offset,
+        ups: BroughtUp {
+            cpus: ups,
+            failed: false,
+        },
         start_word: stamp.gtod.wrapping_add(stamp.offset),
         cpu_of,
         threads,

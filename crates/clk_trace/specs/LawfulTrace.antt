@@ -1,55 +1,83 @@
--- When a trace is lawful for a machine. It speaks of printed fields alone.
-use Rattle.std.specs.Prelude.{◌≡◌, ℕ, ◌+◌, pos, ◌+ℤ◌, ◌-ℤ◌, List, [], ◌∷◌, length, map}
-use Rattle.std.specs.List.{All, AllZip, flat_map}
-use Rattle.std.specs.List.Sorted.{IsPermutation}
+-- When a trace is lawful for a machine. It speaks of printed fields alone, and of any number of CPUs and readers, in either
+-- start. What is not built has no place here yet: a bring-up with warp runs, a watchdog, and a demotion.
+use Rattle.std.specs.Prelude.{◌≡◌, ℕ, ◌+◌, pos, ◌+ℤ◌, ◌-ℤ◌, false, [], length, map, flat_map, All, IsPermutation, if◌then◌else◌}
+use Rattle.std.specs.List.{AllZip}
+use Rattle.clk_base.specs.Walk.{Along, EachFrom}
 use Rattle.clk_num.specs.Wrapping.{wrap}
 use Rattle.clk_machine.specs.Plan.{Plan, cpu_count, threads_of}
 use Rattle.clk_machine.specs.Time.{counter_at}
+use Rattle.clk_adjust.specs.declared.up.CpuUp.{CpuUp}
+use Rattle.clk_adjust.specs.declared.up.UpOutcome.TheVariants.{Untested}
+use Rattle.clk_trace.specs.Threads.{owners, readers, reader_cpus}
+use Rattle.clk_trace.specs.Lines.{step_line}
 use Rattle.clk_trace.specs.ScriptEvents.{AreEventsOf}
+use Rattle.clk_trace.specs.Couples.{CouplesLower}
+use Rattle.clk_trace.specs.Modes.{is_stable, modes_of, IsOfMode, turned_after}
 use Rattle.clk_trace.specs.RightReadings.{HasRightReadings}
-use Rattle.clk_trace.specs.WordHistory.{all_steps, steps_on}
-use Rattle.clk_trace.specs.LegalHistory.{NamesLastStamps, IsLegalHistory}
-use Rattle.clk_trace.specs.SeenBefore.{NeverFalls}
-use Rattle.clk_words.specs.declared.opening.Mode.TheVariants.{PerCpu}
-use Rattle.clk_trace.specs.declared.trace.StableStamp.{StableStamp}
+use Rattle.clk_trace.specs.Stamps.{no_pair, first_pair, last_pair, stamp_zero, stamps_of, NamesPair, pair_after, first_numbers, NamesStamps, numbers_after}
+use Rattle.clk_trace.specs.WordHistory.{steps_of, steps_on, line_of}
+use Rattle.clk_trace.specs.LegalHistory.{ReachesTarget, NamesSource, IsLegalHistory}
+use Rattle.clk_trace.specs.SeenBefore.{base_of, NeverFalls}
 use Rattle.clk_trace.specs.declared.trace.Trace.{Trace}
 
--- the machine's threads, each with the events of its script
+-- the machine's threads, each with the events of its script; a coupling steps on the lower word
 pub record FollowsScripts (m : Plan) (t : Trace) : Type 0 where
   pub cpus : t.cpu_of.items ≡ map (λ s. s.0) (threads_of m)
   pub events : AllZip (λ s es. AreEventsOf s.0 0 s.1 es.items) (threads_of m) t.threads.items
+  pub couples : AllZip (λ cpu es. All (λ e. CouplesLower cpu e.kind) es.items) t.cpu_of.items t.threads.items
 
--- epoch, boot stamp, offsets and openings as the boot makes them; sums wrap
+-- record 0, the boot stamps, the offsets and the openings are as the boot makes them; sums wrap
 pub record HasOpening (m : Plan) (t : Trace) : Type 0 where
-  pub epoch_ticket : t.epoch_ticket ≡ 0
-  pub epoch_cyc : t.epoch_cyc ≡ counter_at m 0 (pos 0) t.epoch_ticket
-  pub stamp : StableStamp
-  pub boots : t.boots.items ≡ stamp ∷ []
-  pub starts : t.starts ≡ PerCpu
-  pub sched_offset : t.sched_offset ≡ pos 0
-  pub gtod_offset : t.gtod_offset ≡ wrap (stamp.raw.ns -ℤ stamp.gtod)
-  pub start_word : t.start_word ≡ wrap (stamp.gtod +ℤ t.gtod_offset)
+  pub epoch : t.epoch_cyc ≡ counter_at m 0 (pos 0) 0
+  pub epoch_drawn : t.epoch_cyc ≡ counter_at m 0 (pos 0) t.epoch_ticket
+  pub boots : length t.boots.items ≡ (if m.stable then 2 else 1)
+  pub starts : is_stable t.starts ≡ m.stable
+  pub gtod_offset : t.gtod_offset ≡ wrap ((first_pair no_pair t.boots.items).raw -ℤ (first_pair no_pair t.boots.items).gtod)
+  pub sched_offset :
+      t.sched_offset ≡ (if m.stable then wrap (((last_pair no_pair t.boots.items).gtod +ℤ t.gtod_offset) -ℤ (last_pair no_pair t.boots.items).raw) else pos 0)
+  pub start_word : t.start_word ≡ wrap ((last_pair no_pair t.boots.items).gtod +ℤ t.gtod_offset)
 
--- what holds at each item and its number, counted from n
-abbrev pub EachFrom : {A : Type 0} → (ℕ → A → Type 0) → ℕ → List A → Type 0
-EachFrom P n [] = Unit {0}
-EachFrom P n (x ∷ xs) = P n x × EachFrom P (n + 1) xs
+-- the CPU of this number was not tested, and its counter is as it was
+pub record IsUntested (number : ℕ) (up : CpuUp) : Type 0 where
+  pub cpu : up.cpu ≡ number
+  pub runs : up.runs.items ≡ []
+  pub adjust : up.adjust ≡ pos 0
+  pub outcome : up.outcome ≡ Untested
 
--- each CPU's clock word has a legal history from the opening, and each reading names its thread's last stamp; before its
--- first one that is the last stamp of the boot
+-- there is an entry for each CPU from 1, in order; no bring-up makes warp runs yet
+pub record HasBringUp (m : Plan) (t : Trace) : Type 0 where
+  pub count : length t.ups.cpus.items + 1 ≡ cpu_count m
+  pub cpus : EachFrom IsUntested 1 t.ups.cpus.items
+
+-- each CPU's clock word has a legal history from the opening, and each per-CPU reading names stamps of its CPU: an owner its
+-- last one, and so the last before the reading, a reader none older than the reading before
 pub record HasLegalHistories (m : Plan) (t : Trace) : Type 0 where
   pub count : length t.histories.items ≡ cpu_count m
-  pub words : EachFrom (λ w lines. IsLegalHistory m.tick t.start_word (steps_on w 0 t.cpu_of.items t.threads.items) lines.items) 0 t.histories.items
-  pub stamps : All (λ s. All (λ es. NamesLastStamps t.gtod_offset (record { raw = s.raw.ns; gtod = s.gtod }) es.items) t.threads.items) t.boots.items
+  pub words : EachFrom (λ w lines. IsLegalHistory t.start_word (steps_on w (steps_of t)) lines.items) 0 t.histories.items
+  pub targets : All (ReachesTarget m.tick) (steps_of t)
+  pub sources : All (λ p. NamesSource t.start_word (steps_of t) p.step.why) (steps_of t)
+  pub owners : All (λ es. Along (λ p e. NamesPair t.gtod_offset p e.kind) (λ p e. pair_after p e.kind) (stamp_zero t) es.items) (owners m t)
+  pub readers :
+      AllZip
+      (λ cpu es. Along (λ n e. NamesStamps (stamps_of t cpu) t.gtod_offset n e.kind) (λ n e. numbers_after (stamps_of t cpu) n e.kind) first_numbers es.items)
+      (reader_cpus m t)
+      (readers m t)
 
--- the histories hold the step of each reading once, and nothing else
+-- the histories show the step of each reading once, and nothing else
 abbrev pub HoldsEachStepOnce : Trace → Type 0
-HoldsEachStepOnce t = IsPermutation (map (λ s. s.line) (all_steps 0 t.threads.items)) (flat_map (λ lines. lines.items) t.histories.items)
+HoldsEachStepOnce t =
+    IsPermutation (map (λ p. step_line (line_of p)) (steps_of t)) (flat_map (λ lines. map step_line lines.items) t.histories.items)
+
+-- each event stands in a mode that it may stand in
+abbrev pub HasModes : Trace → Type 0
+HasModes t = All (λ es. Along (λ turned e. IsOfMode (modes_of t) t.sched_offset turned e.kind) (λ turned e. turned_after turned e.kind) false es.items) t.threads.items
 
 pub record IsLawful (m : Plan) (t : Trace) : Type 0 where
   pub script : FollowsScripts m t
   pub readings : HasRightReadings m t
   pub histories : HasLegalHistories m t
   pub once : HoldsEachStepOnce t
-  pub seen : AllZip (λ cpu es. NeverFalls t.start_word cpu [] es.items) t.cpu_of.items t.threads.items
+  pub seen : AllZip (λ cpu es. NeverFalls t.start_word (base_of t) cpu [] es.items) t.cpu_of.items t.threads.items
+  pub modes : HasModes t
+  pub bring_up : HasBringUp m t
   pub opening : HasOpening m t

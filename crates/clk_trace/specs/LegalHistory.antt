@@ -1,44 +1,48 @@
 -- Which histories of clock words are legal.
-use Rattle.std.specs.Prelude.{◌≡◌, ℤ, List, [], ◌∷◌}
+use Rattle.std.specs.Prelude.{◌≡◌, ℕ, ℤ, not, Bool, true, false, ◌&&◌, List, ◌∷◌, map, filter, Contains}
+use Rattle.std.specs.Ordering.{int_eq}
+use Rattle.clk_base.specs.Chains.{IsChainBy}
 use Rattle.clk_num.specs.Wrapping.{raise}
-use Rattle.clk_words.specs.declared.step.Why.TheVariants.{Raise}
+use Rattle.clk_words.specs.declared.step.Why.{Why}
+use Rattle.clk_words.specs.declared.step.Why.TheVariants.{Raise, Couple, Lift}
 use Rattle.clk_words.specs.Targets.{target}
-use Rattle.clk_trace.specs.WordHistory.{Step, IsHistoryOf}
-use Rattle.clk_trace.specs.declared.event.Event.{Event}
-use Rattle.clk_trace.specs.declared.event.EventKind.{EventKind}
-use Rattle.clk_trace.specs.declared.event.EventKind.TheVariants.{Local, Stamp}
+use Rattle.clk_trace.specs.Lines.{step_line}
+use Rattle.clk_trace.specs.WordHistory.{Placed, steps_on, IsHistoryOf}
 use Rattle.clk_trace.specs.declared.trace.HistoryStep.{HistoryStep}
 
--- the value that a step raises its word to
-abbrev pub target_of : ℤ → Step → ℤ
-target_of tick s = target tick (Raise s.raw s.tick_raw s.tick_gtod s.offset)
+-- ---- a single step
 
--- the word goes from its opening from step to step, and each step raises it to its target
-abbrev pub IsChain : ℤ → ℤ → List Step → Type 0
-IsChain tick opening [] = Unit {0}
-IsChain tick opening (s ∷ steps) =
-    (s.line.old ≡ opening) × (s.line.new ≡ raise opening (target_of tick s)) × IsChain tick s.line.new steps
+-- it raises its word to its target
+abbrev pub ReachesTarget : ℤ → Placed → Type 0
+ReachesTarget tick p = p.step.new ≡ raise p.step.old (target tick p.step.why)
 
--- the pair of a stamp: the raw reading and the monotonic time there, in ns
-pub record Pair : Type 0 where
-  pub raw : ℤ
-  pub gtod : ℤ
+-- what a word held at some moment
+abbrev pub held_by : ℤ → List Placed → ℕ → List ℤ
+held_by opening steps w = opening ∷ map (λ p. p.step.new) (steps_on w steps)
 
--- the pair that stands after an event, and whether an event names the pair that stands and this offset
-abbrev pub pair_after : Pair → EventKind → Pair
-pair_after p (Stamp gtod_ticket gtod raw) = record { raw = raw.ns; gtod = gtod }
-pair_after p _ = p
+-- what was brought into some word by another step than a coupling, and the opening
+abbrev pub is_coupling : Why → Bool
+is_coupling (Raise raw tick_raw tick_gtod offset) = false
+is_coupling (Couple from value) = true
+is_coupling (Lift value) = false
 
-abbrev pub NamesPair : ℤ → Pair → EventKind → Type 0
-NamesPair offset p (Local raw tick_raw tick_gtod shown old new) = (tick_raw ≡ p.raw) × (tick_gtod ≡ p.gtod) × (shown ≡ offset)
-NamesPair offset p _ = Unit {0}
+abbrev pub brings : Placed → Bool
+brings p = not (is_coupling p.step.why) && not (int_eq p.step.old p.step.new)
 
--- each reading names the pair of its thread's last stamp before it, or p if there is none, and the offset
-abbrev pub NamesLastStamps : ℤ → Pair → List Event → Type 0
-NamesLastStamps offset p [] = Unit {0}
-NamesLastStamps offset p (e ∷ es) = NamesPair offset p e.kind × NamesLastStamps offset (pair_after p e.kind) es
+abbrev pub brought_by : ℤ → List Placed → List ℤ
+brought_by opening steps = opening ∷ map (λ p. p.step.new) (filter brings steps)
 
--- the lines of a word show its steps in order, and those are a chain from its opening
-pub record IsLegalHistory (tick opening : ℤ) (steps : List Step) (lines : List HistoryStep) : Type 0 where
-  pub history : IsHistoryOf opening steps lines
-  pub chain : IsChain tick opening history.ordered
+-- a coupling names a value that the other word held, and that some word got otherwise
+abbrev pub NamesSource : ℤ → List Placed → Why → Type 0
+NamesSource opening steps (Raise raw tick_raw tick_gtod offset) = Unit {0}
+NamesSource opening steps (Couple from value) = Contains (held_by opening steps from) value × Contains (brought_by opening steps) value
+NamesSource opening steps (Lift value) = Unit {0}
+
+-- ---- the lines of a word
+
+-- they show its steps in order, and those are a chain from its opening; of a line's place in its thread nothing is shown
+pub record IsLegalHistory (opening : ℤ) (steps : List Placed) (lines : List HistoryStep) : Type 0 where
+  pub ordered : List HistoryStep
+  pub history : IsHistoryOf opening steps ordered
+  pub printed : map step_line lines ≡ map step_line ordered
+  pub chain : IsChainBy (λ s. s.old) (λ s. s.new) opening lines

@@ -1,37 +1,51 @@
 -- Which events the words of a script call for.
-use Rattle.std.specs.Prelude.{◌≡◌, ℕ, ◌+◌, ℤ, pos, List, [], ◌∷◌, ◌++◌, map}
+use Rattle.std.specs.Prelude.{◌≡◌, ℕ, ◌+◌, ◌==◌, ℤ, pos, List, [], ◌∷◌, ◌++◌, map, MatchBool}
+use Rattle.clk_machine.specs.Plan.{count_of}
 use Rattle.clk_machine.specs.declared.script.Word.{Word}
 use Rattle.clk_machine.specs.declared.script.Word.TheVariants as word
 use Rattle.clk_trace.specs.declared.event.Event.{Event}
 use Rattle.clk_trace.specs.declared.event.EventKind.{EventKind}
-use Rattle.clk_trace.specs.declared.event.EventKind.TheVariants.{Local, Stamp, Update, Pause}
+use Rattle.clk_trace.specs.declared.event.EventKind.TheVariants.{Stable, Local, Couple, Stamp, Nothing, Update, Pause}
 
--- the event is a reading of the per-CPU clock, a stamp, an update, a pause of n tickets
-abbrev pub IsLocal : EventKind → Type 0
-IsLocal (Local raw tick_raw tick_gtod offset old new) = Unit {0}
-IsLocal _ = ⊥
+-- a reading of the own clock, in either mode
+abbrev pub IsReading : List EventKind → Type 0
+IsReading (Stable raw value ∷ []) = Unit {0}
+IsReading (Local raw tick_raw tick_gtod offset old new ∷ []) = Unit {0}
+IsReading _ = ⊥
 
-abbrev pub IsStamp : EventKind → Type 0
-IsStamp (Stamp gtod_ticket gtod raw) = Unit {0}
-IsStamp _ = ⊥
+-- a reading of another CPU's clock: per-CPU it is a reading of the own clock first
+abbrev pub IsRemoteReading : ℕ → List EventKind → Type 0
+IsRemoteReading asked (Stable raw value ∷ []) = Unit {0}
+IsRemoteReading asked (Local raw tick_raw tick_gtod offset old new ∷ Couple cpu own other word from to ∷ []) = cpu ≡ asked
+IsRemoteReading asked _ = ⊥
 
-abbrev pub IsUpdate : EventKind → Type 0
-IsUpdate (Update p) = Unit {0}
+-- a tick: per-CPU it is a stamp and then a reading
+abbrev pub IsTick : List EventKind → Type 0
+IsTick (Nothing ∷ []) = Unit {0}
+IsTick (Stamp gtod_ticket gtod stamp ∷ Local raw tick_raw tick_gtod offset old new ∷ []) = Unit {0}
+IsTick _ = ⊥
+
+-- the end of an idle time: a reading and then a tick
+abbrev pub IsIdle : List EventKind → Type 0
+IsIdle [] = ⊥
+IsIdle (k ∷ ks) = IsReading (k ∷ []) × IsTick ks
+
+abbrev pub IsUpdate : List EventKind → Type 0
+IsUpdate (Update p ∷ []) = Unit {0}
 IsUpdate _ = ⊥
 
-abbrev pub IsPause : ℤ → EventKind → Type 0
-IsPause n (Pause ticket count) = n ≡ pos count
+abbrev pub IsPause : ℤ → List EventKind → Type 0
+IsPause n (Pause ticket count ∷ []) = n ≡ pos count
 IsPause n _ = ⊥
 
--- what one script word of a thread on this CPU calls for; a remote reading of the own CPU is a local one, and other
--- CPUs have no events yet
+-- what one script word of a thread on this CPU calls for; a remote reading of the own CPU is a reading of the own clock
 abbrev pub Calls : ℕ → Word → List EventKind → Type 0
-Calls cpu word.Local ks = (k : EventKind) × (ks ≡ k ∷ []) × IsLocal k
-Calls cpu (word.Remote d) ks = (d ≡ pos cpu) × ((k : EventKind) × (ks ≡ k ∷ []) × IsLocal k)
-Calls cpu word.Tick ks = (k l : EventKind) × (ks ≡ k ∷ l ∷ []) × IsStamp k × IsLocal l
-Calls cpu word.Idle ks = (k l n : EventKind) × (ks ≡ k ∷ l ∷ n ∷ []) × IsLocal k × IsStamp l × IsLocal n
-Calls cpu word.Update ks = (k : EventKind) × (ks ≡ k ∷ []) × IsUpdate k
-Calls cpu (word.Pause n) ks = (k : EventKind) × (ks ≡ k ∷ []) × IsPause n k
+Calls cpu word.Local ks = IsReading ks
+Calls cpu (word.Remote d) ks = MatchBool (count_of d == cpu) (IsReading ks) (IsRemoteReading (count_of d) ks)
+Calls cpu word.Tick ks = IsTick ks
+Calls cpu word.Idle ks = IsIdle ks
+Calls cpu word.Update ks = IsUpdate ks
+Calls cpu (word.Pause n) ks = IsPause n ks
 
 -- the events of call m
 abbrev pub events_at : ℕ → List EventKind → List Event

@@ -1,34 +1,61 @@
--- What a thread has seen of a clock word.
-use Rattle.std.specs.Prelude.{ℕ, ◌==◌, ℤ, int_lt, List, [], ◌∷◌, ◌++◌, if◌then◌else◌}
-use Rattle.std.specs.List.{flat_map, fold}
+-- What a thread has seen of the clock words.
+use Rattle.std.specs.Prelude.{ℕ, ◌==◌, ℤ, int_lt, List, [], ◌∷◌, ◌++◌, flat_map, fold, if◌then◌else◌}
+use Rattle.clk_base.specs.Walk.{Along}
 use Rattle.clk_num.specs.Wrapping.{above, IsNotBelow}
 use Rattle.clk_trace.specs.declared.event.Event.{Event}
 use Rattle.clk_trace.specs.declared.event.EventKind.{EventKind}
-use Rattle.clk_trace.specs.declared.event.EventKind.TheVariants.{Local}
+use Rattle.clk_trace.specs.declared.event.EventKind.TheVariants.{Stable, Local, Couple, Stamp, Nothing, Update, Pause}
+use Rattle.clk_trace.specs.declared.trace.Trace.{Trace}
 
--- what an event of a thread on this CPU shows of the word of CPU w
-abbrev pub shown_of_kind : ℕ → ℕ → EventKind → List ℤ
-shown_of_kind cpu w (Local raw tick_raw tick_gtod offset old new) = if cpu == w then new ∷ [] else []
-shown_of_kind cpu w _ = []
+-- a value of a clock word
+pub record Seen : Type 0 where
+  pub word : ℕ
+  pub value : ℤ
 
--- of two values the one that is higher above the opening
+abbrev pub seen_at : ℕ → ℤ → Seen
+seen_at w value = record { word = w; value = value }
+
+-- what an event of a thread on this CPU shows, loaded or as it left a word
+abbrev pub shown_by_kind : ℕ → EventKind → List Seen
+shown_by_kind cpu (Stable raw value) = []
+shown_by_kind cpu (Local raw tick_raw tick_gtod offset old new) = seen_at cpu new ∷ []
+shown_by_kind cpu (Couple asked own other word old new) = seen_at cpu own ∷ seen_at asked other ∷ seen_at word new ∷ []
+shown_by_kind cpu (Stamp gtod_ticket gtod raw) = []
+shown_by_kind cpu Nothing = []
+shown_by_kind cpu (Update p) = []
+shown_by_kind cpu (Pause ticket count) = []
+
+-- of two values the one that is higher above the opening, and the highest of x and some more
 abbrev pub higher : ℤ → ℤ → ℤ → ℤ
 higher opening x y = if int_lt (above x opening) (above y opening) then y else x
 
--- the highest of some values, or the opening
-abbrev pub highest : ℤ → List ℤ → ℤ
-highest opening xs = fold (higher opening) opening xs
+abbrev pub highest : ℤ → ℤ → List ℤ → ℤ
+highest opening x xs = fold (higher opening) x xs
 
--- the highest value of the word that these events show, or its opening
-abbrev pub seen_in : ℤ → ℕ → ℕ → List Event → ℤ
-seen_in opening cpu w events = highest opening (flat_map (λ e. shown_of_kind cpu w e.kind) events)
+-- those of the word w
+abbrev pub values_on : ℕ → List Seen → List ℤ
+values_on w seen = flat_map (λ v. if v.word == w then v.value ∷ [] else []) seen
 
--- what an event found is not below what the events before it had seen of that word
-abbrev pub IsAboveSeen : ℤ → ℕ → List Event → EventKind → Type 0
-IsAboveSeen opening cpu before (Local raw tick_raw tick_gtod offset old new) = IsNotBelow old (seen_in opening cpu cpu before)
-IsAboveSeen opening cpu before _ = Unit {0}
+-- where the words stood when per-CPU readings began: with no demotion at their opening
+abbrev pub base_of : Trace → ℕ → ℤ
+base_of t w = t.start_word
 
--- no reading falls below what its thread had seen; the events `before` came before these
-abbrev pub NeverFalls : ℤ → ℕ → List Event → List Event → Type 0
-NeverFalls opening cpu before [] = Unit {0}
-NeverFalls opening cpu before (e ∷ es) = IsAboveSeen opening cpu before e.kind × NeverFalls opening cpu (before ++ e ∷ []) es
+-- the highest value of the word that was seen, or where it stood at first; nothing lies below that
+abbrev pub seen_of : ℤ → (ℕ → ℤ) → ℕ → List Seen → ℤ
+seen_of opening base w seen = highest opening (base w) (values_on w seen)
+
+-- what an event found is not below what was seen of that word before
+abbrev pub IsAboveSeen : ℤ → (ℕ → ℤ) → ℕ → List Seen → EventKind → Type 0
+IsAboveSeen opening base cpu seen (Stable raw value) = Unit {0}
+IsAboveSeen opening base cpu seen (Local raw tick_raw tick_gtod offset old new) = IsNotBelow old (seen_of opening base cpu seen)
+IsAboveSeen opening base cpu seen (Couple asked own other word old new) =
+    IsNotBelow own (seen_of opening base cpu seen) × IsNotBelow other (seen_of opening base asked seen)
+IsAboveSeen opening base cpu seen (Stamp gtod_ticket gtod raw) = Unit {0}
+IsAboveSeen opening base cpu seen Nothing = Unit {0}
+IsAboveSeen opening base cpu seen (Update p) = Unit {0}
+IsAboveSeen opening base cpu seen (Pause ticket count) = Unit {0}
+
+-- no reading of these events falls below what its thread had seen; so much was seen before them
+abbrev pub NeverFalls : ℤ → (ℕ → ℤ) → ℕ → List Seen → List Event → Type 0
+NeverFalls opening base cpu seen es =
+    Along (λ before e. IsAboveSeen opening base cpu before e.kind) (λ before e. before ++ shown_by_kind cpu e.kind) seen es

@@ -1,12 +1,11 @@
 -- In which order a run draws its tickets.
-use Rattle.std.specs.Prelude.{ℕ, List, [], ◌∷◌, ◌++◌}
-use Rattle.std.specs.List.{All, flat_map}
+use Rattle.std.specs.Prelude.{ℕ, List, [], ◌∷◌, ◌++◌, All, flat_map}
 use Rattle.clk_base.specs.declared.block.Block.{Block}
-use Rattle.clk_base.specs.Blocks.{AllEndBy, Covers, Rises}
+use Rattle.clk_base.specs.Blocks.{Covers, RisesFrom, top_of}
 use Rattle.clk_num.specs.Listed.{Listed}
 use Rattle.clk_trace.specs.declared.event.Event.{Event}
 use Rattle.clk_trace.specs.declared.event.EventKind.{EventKind}
-use Rattle.clk_trace.specs.declared.event.EventKind.TheVariants.{Local, Stamp, Update, Pause}
+use Rattle.clk_trace.specs.declared.event.EventKind.TheVariants.{Stable, Local, Couple, Stamp, Nothing, Update, Pause}
 use Rattle.clk_trace.specs.declared.trace.StableStamp.{StableStamp}
 
 -- the block of one reading
@@ -15,21 +14,27 @@ one k = record { first = k; count = 1 }
 
 -- what an event drew, in its order
 abbrev pub blocks_of_kind : EventKind → List Block
+blocks_of_kind (Stable raw value) = one raw.ticket ∷ []
 blocks_of_kind (Local raw tick_raw tick_gtod offset old new) = one raw.ticket ∷ []
+blocks_of_kind (Couple cpu own other word old new) = []
 blocks_of_kind (Stamp gtod_ticket gtod raw) = one gtod_ticket ∷ one raw.ticket ∷ []
+blocks_of_kind Nothing = []
 blocks_of_kind (Update p) = one p.ticket ∷ []
 blocks_of_kind (Pause ticket count) = record { first = ticket; count = count } ∷ []
 
 abbrev pub blocks_of : Event → List Block
 blocks_of e = blocks_of_kind e.kind
 
+-- what a thread drew
+abbrev pub thread_blocks : Listed Event → List Block
+thread_blocks es = flat_map blocks_of es.items
+
 -- what the boot drew: the epoch's ticket, and two for each stamp
 abbrev pub boot_blocks : ℕ → List StableStamp → List Block
 boot_blocks epoch boots = one epoch ∷ flat_map (λ s. one s.gtod_ticket ∷ one s.raw.ticket ∷ []) boots
 
--- all blocks are disjoint and cover the numbers below n; those of the boot rise and come first; those of each thread rise
-pub record IsTicketOrder (boot : List Block) (threads : List (Listed Event)) (n : ℕ) : Type 0 where
-  pub covers : Covers (boot ++ flat_map (λ es. flat_map blocks_of es.items) threads) n
-  pub boot_rises : Rises boot
-  pub boot_first : All (λ b. AllEndBy b.first boot) (flat_map (λ es. flat_map blocks_of es.items) threads)
-  pub threads_rise : All (λ es. Rises (flat_map blocks_of es.items)) threads
+-- all blocks are disjoint and cover the numbers below n; those of the boot rise and come first; each list rises by itself
+pub record IsTicketOrder (boot : List Block) (lists : List (List Block)) (n : ℕ) : Type 0 where
+  pub covers : Covers (boot ++ flat_map (λ bs. bs) lists) n
+  pub boot_rises : RisesFrom 0 boot
+  pub lists_rise : All (RisesFrom (top_of 0 boot)) lists

@@ -1,62 +1,85 @@
 -- The text of a trace, line by line.
-use Rattle.std.specs.Prelude.{ℕ, ℤ, List, [], ◌∷◌, ◌++◌, length, codes, decimal, slice_index}
-use Rattle.std.specs.Fmt.{signed_decimal}
-use Rattle.clk_base.specs.Text.{line, lines_from}
+use Rattle.std.specs.Prelude.{ℕ, ◌+◌, ◌==◌, Bool, ℤ, List, [], ◌∷◌, ◌++◌, map, length, slice_index, if◌then◌else◌}
+use Rattle.clk_base.specs.Text.{lines_from}
+use Rattle.clk_base.specs.Walk.{flat_from}
 use Rattle.clk_num.specs.Listed.{Listed}
-use Rattle.clk_machine.specs.declared.reading.RawReading.{RawReading}
+use Rattle.clk_warp.specs.Verdicts.{verdict_of}
+use Rattle.clk_warp.specs.declared.side.WarpReading.{WarpReading}
+use Rattle.clk_warp.specs.declared.side.WarpRun.{WarpRun}
+use Rattle.clk_adjust.specs.declared.up.CpuUp.{CpuUp}
+use Rattle.clk_trace.specs.Lines.{Line, step_line, line_text, text_of}
+use Rattle.clk_trace.specs.Lines.Line.{Head, Epoch, Boot, Start, Run, Turn, Done, Cpu, Word, Thread, Shown, History, End}
 use Rattle.clk_trace.specs.declared.event.Event.{Event}
-use Rattle.clk_trace.specs.declared.event.EventKind.{EventKind}
-use Rattle.clk_trace.specs.declared.event.EventKind.TheVariants.{Local, Stamp, Update, Pause}
-use Rattle.clk_words.specs.declared.opening.Mode.{Mode}
-use Rattle.clk_words.specs.declared.opening.Mode.TheVariants.{Stable, PerCpu}
 use Rattle.clk_trace.specs.declared.trace.StableStamp.{StableStamp}
 use Rattle.clk_trace.specs.declared.trace.HistoryStep.{HistoryStep}
 use Rattle.clk_trace.specs.declared.trace.Trace.{Trace}
 
-abbrev pub raw_words : RawReading → List (List ℕ)
-raw_words r = decimal r.ticket ∷ decimal r.cyc ∷ decimal r.rec ∷ signed_decimal r.ns ∷ []
+abbrev pub boot_line : StableStamp → Line
+boot_line s = Boot s.gtod_ticket s.gtod s.raw
 
--- one equation for each kind of event
-abbrev pub kind_words : EventKind → List (List ℕ)
-kind_words (Local raw tick_raw tick_gtod offset old new) =
-    (codes "local" ∷ raw_words raw)
-    ++ (signed_decimal tick_raw ∷ signed_decimal tick_gtod ∷ signed_decimal offset ∷ signed_decimal old ∷ signed_decimal new ∷ [])
-kind_words (Stamp gtod_ticket gtod raw) = codes "stamp" ∷ decimal gtod_ticket ∷ signed_decimal gtod ∷ raw_words raw
-kind_words (Update p) = codes "update" ∷ decimal p.rec ∷ decimal p.ticket ∷ decimal p.cyc ∷ signed_decimal p.ns ∷ []
-kind_words (Pause ticket count) = codes "pause" ∷ decimal ticket ∷ decimal count ∷ []
+-- what a run counts, and its verdict: there are runs left where it is not the last of its CPU
+abbrev pub done_line : Bool → WarpRun → Line
+done_line last run = Done run.nr run.max run.random run.cur_source run.cur_target (verdict_of run (if last then 1 else 2))
 
-abbrev pub event_line : ℕ → Event → List ℕ
-event_line n e = line (decimal e.call ∷ kind_words e.kind)
+-- the run at place n of so many runs of a CPU; the text numbers them from 1
+abbrev pub run_lines : ℕ → ℕ → ℕ → WarpRun → List Line
+run_lines cpu count n run = Run cpu (n + 1) ∷ map (λ r. Turn r) run.readings.items ++ (done_line (n + 1 == count) run ∷ [])
 
-abbrev pub boot_line : ℕ → StableStamp → List ℕ
-boot_line n s = line (codes "boot" ∷ decimal s.gtod_ticket ∷ signed_decimal s.gtod ∷ raw_words s.raw)
+abbrev pub cpu_line : CpuUp → Line
+cpu_line up = Cpu up.cpu up.adjust up.outcome
 
-abbrev pub mode_name : Mode → List ℕ
-mode_name Stable = codes "stable"
-mode_name PerCpu = codes "percpu"
+-- the bring-up of a CPU: its runs, and what came of them
+abbrev pub up_lines : ℕ → CpuUp → List Line
+up_lines n up = flat_from (run_lines up.cpu (length up.runs.items)) 0 up.runs.items ++ (cpu_line up ∷ [])
 
 -- the opening of clock word w; all words open alike
-abbrev pub word_line : {A : Type 0} → ℤ → ℕ → A → List ℕ
-word_line opening w _ = line (codes "word" ∷ decimal w ∷ signed_decimal opening ∷ [])
+abbrev pub word_lines : {A : Type 0} → ℤ → ℕ → A → List Line
+word_lines opening w _ = Word w opening ∷ []
 
-abbrev pub thread_lines : List ℕ → ℕ → Listed Event → List ℕ
-thread_lines cpus n events =
-    line (codes "thread" ∷ decimal n ∷ decimal (slice_index cpus n) ∷ []) ++ lines_from event_line 0 events.items
+abbrev pub thread_lines : List ℕ → ℕ → Listed Event → List Line
+thread_lines cpus n events = Thread n (slice_index cpus n) ∷ map (λ e. Shown e) events.items
 
-abbrev pub step_line : ℕ → HistoryStep → List ℕ
-step_line n s = line (decimal s.thread ∷ decimal s.call ∷ signed_decimal s.old ∷ signed_decimal s.new ∷ [])
+abbrev pub history_lines : ℕ → Listed HistoryStep → List Line
+history_lines w steps = History w (length steps.items) ∷ map step_line steps.items
 
-abbrev pub history_lines : ℕ → Listed HistoryStep → List ℕ
-history_lines w steps =
-    line (codes "history" ∷ decimal w ∷ decimal (length steps.items) ∷ []) ++ lines_from step_line 0 steps.items
+abbrev pub lines_of : Trace → List Line
+lines_of t =
+    (Head ∷ Epoch t.epoch_ticket t.epoch_cyc ∷ map boot_line t.boots.items)
+    ++ (Start t.starts t.sched_offset t.gtod_offset ∷ flat_from up_lines 0 t.ups.cpus.items)
+    ++ flat_from (word_lines t.start_word) 0 t.histories.items
+    ++ flat_from (thread_lines t.cpu_of.items) 0 t.threads.items
+    ++ flat_from history_lines 0 t.histories.items
+    ++ (End t.tickets ∷ [])
 
 abbrev pub text : Trace → List ℕ
-text t =
-    line (codes "trace" ∷ decimal 1 ∷ [])
-    ++ line (codes "epoch" ∷ decimal t.epoch_ticket ∷ decimal t.epoch_cyc ∷ [])
-    ++ lines_from boot_line 0 t.boots.items
-    ++ line (codes "start" ∷ mode_name t.starts ∷ signed_decimal t.sched_offset ∷ signed_decimal t.gtod_offset ∷ [])
-    ++ lines_from (word_line t.start_word) 0 t.histories.items
-    ++ lines_from (thread_lines t.cpu_of.items) 0 t.threads.items
-    ++ lines_from history_lines 0 t.histories.items
-    ++ line (codes "end" ∷ decimal t.tickets ∷ [])
+text t = text_of (lines_of t)
+
+-- ---- the parts of a text, as the writer goes through them
+
+abbrev pub event_text : ℕ → Event → List ℕ
+event_text n e = line_text (Shown e)
+
+abbrev pub boot_text : ℕ → StableStamp → List ℕ
+boot_text n s = line_text (boot_line s)
+
+abbrev pub step_text : ℕ → HistoryStep → List ℕ
+step_text n s = line_text (step_line s)
+
+abbrev pub reading_text : ℕ → WarpReading → List ℕ
+reading_text n r = line_text (Turn r)
+
+abbrev pub run_text : ℕ → ℕ → ℕ → WarpRun → List ℕ
+run_text cpu count n run =
+    line_text (Run cpu (n + 1)) ++ lines_from reading_text 0 run.readings.items ++ line_text (done_line (n + 1 == count) run)
+
+abbrev pub up_text : ℕ → CpuUp → List ℕ
+up_text n up = lines_from (run_text up.cpu (length up.runs.items)) 0 up.runs.items ++ line_text (cpu_line up)
+
+abbrev pub word_text : {A : Type 0} → ℤ → ℕ → A → List ℕ
+word_text opening w _ = line_text (Word w opening)
+
+abbrev pub thread_text : List ℕ → ℕ → Listed Event → List ℕ
+thread_text cpus n events = line_text (Thread n (slice_index cpus n)) ++ lines_from event_text 0 events.items
+
+abbrev pub history_text : ℕ → Listed HistoryStep → List ℕ
+history_text w steps = line_text (History w (length steps.items)) ++ lines_from step_text 0 steps.items

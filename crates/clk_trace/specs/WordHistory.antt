@@ -1,66 +1,86 @@
 -- The history of a clock word, out of the events of the threads.
-use Rattle.std.specs.Prelude.{◌≡◌, ℕ, ◌+◌, ◌==◌, Bool, ℤ, List, [], ◌∷◌, ◌++◌, map, if◌then◌else◌}
+use Rattle.std.specs.Prelude.{ℕ, ◌+◌, ◌==◌, Bool, ℤ, List, [], ◌∷◌, ◌++◌, map, filter, IsPermutation, IsSorted}
 use Rattle.std.specs.declared.cmp.Ordering.{Ordering}
 use Rattle.std.specs.Ordering.{ordering_then, nat_cmp, int_cmp, int_eq, bool_cmp}
-use Rattle.std.specs.List.Sorted.{IsPermutation, IsSorted}
 use Rattle.clk_num.specs.Listed.{Listed}
 use Rattle.clk_num.specs.Wrapping.{above}
+use Rattle.clk_words.specs.declared.step.Step.{Step}
+use Rattle.clk_words.specs.declared.step.Why.TheVariants as why
+use Rattle.clk_trace.specs.Couples.{named_word, named_value}
 use Rattle.clk_trace.specs.declared.event.Event.{Event}
 use Rattle.clk_trace.specs.declared.event.EventKind.{EventKind}
-use Rattle.clk_trace.specs.declared.event.EventKind.TheVariants.{Local}
+use Rattle.clk_trace.specs.declared.event.EventKind.TheVariants.{Stable, Local, Couple, Stamp, Nothing, Update, Pause}
 use Rattle.clk_trace.specs.declared.trace.HistoryStep.{HistoryStep}
+use Rattle.clk_trace.specs.declared.trace.Trace.{Trace}
 
--- a step of a clock word: the line that shows it, and what its value was made of
-pub record Step : Type 0 where
-  pub line : HistoryStep
-  pub raw : ℤ
-  pub tick_raw : ℤ
-  pub tick_gtod : ℤ
-  pub offset : ℤ
+-- a step of the clock words, made `by` the thread of that number, and the place of its event there
+pub record Placed : Type 0 where
+  pub step : Step
+  pub part : ℕ
 
--- the step of an event of this call, at this place of this thread, if it makes one
-abbrev pub steps_of_kind : ℕ → ℕ → ℕ → EventKind → List Step
-steps_of_kind thread call part (Local raw tick_raw tick_gtod offset old new) =
+-- the step of an event of this call, at this place of this thread on this CPU, if it makes one
+abbrev pub steps_of_kind : ℕ → ℕ → ℕ → ℕ → EventKind → List Placed
+steps_of_kind thread cpu call part (Stable raw value) = []
+steps_of_kind thread cpu call part (Local raw tick_raw tick_gtod offset old new) =
     record {
-      line = record { thread = thread; call = call; part = part; old = old; new = new };
-      raw = raw.ns;
-      tick_raw = tick_raw;
-      tick_gtod = tick_gtod;
-      offset = offset;
+      step = record { by = thread; call = call; word = cpu; why = why.Raise raw.ns tick_raw tick_gtod offset; old = old; new = new };
+      part = part;
     } ∷ []
-steps_of_kind thread call part _ = []
+steps_of_kind thread cpu call part (Couple asked own other word old new) =
+    record {
+      step = record {
+        by = thread;
+        call = call;
+        word = word;
+        why = why.Couple (named_word cpu asked word) (named_value asked own other word);
+        old = old;
+        new = new;
+      };
+      part = part;
+    } ∷ []
+steps_of_kind thread cpu call part (Stamp gtod_ticket gtod raw) = []
+steps_of_kind thread cpu call part Nothing = []
+steps_of_kind thread cpu call part (Update p) = []
+steps_of_kind thread cpu call part (Pause ticket count) = []
 
 -- the steps of these events, whose places are counted from `part`
-abbrev pub steps_from : ℕ → ℕ → List Event → List Step
-steps_from thread part [] = []
-steps_from thread part (e ∷ es) = steps_of_kind thread e.call part e.kind ++ steps_from thread (part + 1) es
+abbrev pub steps_from : ℕ → ℕ → ℕ → List Event → List Placed
+steps_from thread cpu part [] = []
+steps_from thread cpu part (e ∷ es) = steps_of_kind thread cpu e.call part e.kind ++ steps_from thread cpu (part + 1) es
 
--- the steps of all threads, which are numbered from n
-abbrev pub all_steps : ℕ → List (Listed Event) → List Step
-all_steps n [] = []
-all_steps n (es ∷ threads) = steps_from n 0 es.items ++ all_steps (n + 1) threads
+-- the steps of all threads, which are numbered from n, each with its CPU
+abbrev pub all_steps : ℕ → List ℕ → List (Listed Event) → List Placed
+all_steps n (cpu ∷ cpus) (es ∷ threads) = steps_from n cpu 0 es.items ++ all_steps (n + 1) cpus threads
+all_steps n _ _ = []
 
--- those on the clock word of CPU w: each thread steps on the word of its own CPU
-abbrev pub steps_on : ℕ → ℕ → List ℕ → List (Listed Event) → List Step
-steps_on w n (cpu ∷ cpus) (es ∷ threads) = (if cpu == w then steps_from n 0 es.items else []) ++ steps_on w (n + 1) cpus threads
-steps_on w n _ _ = []
+abbrev pub steps_of : Trace → List Placed
+steps_of t = all_steps 0 t.cpu_of.items t.threads.items
+
+-- those on the word w, wherever they were made
+abbrev pub steps_on : ℕ → List Placed → List Placed
+steps_on w steps = filter (λ p. p.step.word == w) steps
+
+-- the line that a history keeps of a step
+abbrev pub line_of : Placed → HistoryStep
+line_of p = record { thread = p.step.by; call = p.step.call; part = p.part; old = p.step.old; new = p.step.new }
 
 -- the step left the word as it was
 abbrev pub is_flat : HistoryStep → Bool
 is_flat s = int_eq s.old s.new
 
--- by how far the word is above its opening afterwards, then rising steps before flat ones, then by thread, call and place
+-- by how far the word is above its opening afterwards, then rising steps before flat ones, then by thread, call and place;
+-- no two steps agree in these, and with the word before at the end, lines that are equal in order are equal
 abbrev pub history_cmp : ℤ → HistoryStep → HistoryStep → Ordering
 history_cmp opening a b =
     ordering_then
     (ordering_then
+    (ordering_then
     (ordering_then (ordering_then (int_cmp (above a.new opening) (above b.new opening)) (bool_cmp (is_flat a) (is_flat b))) (nat_cmp a.thread b.thread))
     (nat_cmp a.call b.call))
-    (nat_cmp a.part b.part)
+    (nat_cmp a.part b.part))
+    (int_cmp a.old b.old)
 
--- the lines show just these steps, in order
-pub record IsHistoryOf (opening : ℤ) (steps : List Step) (lines : List HistoryStep) : Type 0 where
-  pub ordered : List Step
-  pub all : IsPermutation steps ordered
-  pub printed : lines ≡ map (λ s. s.line) ordered
+-- the lines are those of just these steps, in order
+pub record IsHistoryOf (opening : ℤ) (steps : List Placed) (lines : List HistoryStep) : Type 0 where
+  pub all : IsPermutation (map line_of steps) lines
   pub sorted : IsSorted (history_cmp opening) lines

@@ -2,12 +2,18 @@
 //!
 //! A [`Trace`] holds every reading, stamp and pause of a run with its ticket, and the history of each clock word.
 //! `specs/` says when a trace is lawful for a machine and what its text is, line by line; the text fixes all that
-//! lawfulness reads. [`write_trace`] writes exactly that text into any [`Sink`], and takes no memory. Any other text of
-//! lines goes to a sink by an [`Out`], as that of a trace does.
+//! lawfulness reads. [`histories`] finds the history of each word from the events of all threads, and [`write_trace`]
+//! writes exactly the trace's text into any [`Sink`]; neither takes memory. Any other text of lines goes to a sink by an
+//! [`Out`], as that of a trace does.
 #![tactic(auto)]
 
 mod event;
+mod gather;
+#[cfg(test)]
+mod history_tests;
+mod laws;
 mod out;
+mod row;
 mod sink;
 #[cfg(test)]
 mod tests;
@@ -15,6 +21,8 @@ mod trace;
 mod write;
 
 pub use event::{Event, EventKind};
+pub use gather::histories;
+pub use laws::sorted_steps_are_a_chain;
 pub use out::{Out, Part, WriteFault};
 pub use sink::{Failed, Sink};
 pub use trace::{HistoryStep, StableStamp, Trace};

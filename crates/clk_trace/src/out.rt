@@ -1,10 +1,12 @@
 //! The way of a text to a sink, line by line through a buffer.
 ghost use Rattle.std.specs.Prelude.{◌≡◌, ◌+◌, ◌<◌, ◌≤◌, [], ◌∷◌, ◌++◌, true, false, length, map, OnOk, OnErr};
+ghost use Rattle.std.specs.List.{sum_by};
 ghost use Rattle.clk_base.specs.Causes.{Grew, GrewByPrefix, HasCause};
 ghost use Rattle.clk_base.specs.Text.{line};
 ghost use Rattle.clk_trace.specs.Taking.{Buffered, Takes, progress_of};
-ghost use Rattle.clk_trace.specs.Parts.{part_text};
+ghost use Rattle.clk_trace.specs.Parts.{part_text, part_room};
 
+use crate::row::Row;
 use crate::sink::{Failed, Sink};
 use std::marker::Model;
 
@@ -23,6 +25,8 @@ pub enum Part {
     Unsigned(u64),
     /// A number of either sign.
     Signed(i64),
+    /// A number with its sign changed: 0, or one below it.
+    Negated(u64),
 }
 
 /// Text on its way to a sink, line by line, through a buffer of 8 KiB that is part of the value: it takes no memory. A
@@ -30,12 +34,27 @@ pub enum Part {
 /// tells how it went. What `finish` was not called for may never reach the sink.
 #[derive(Drop)]
 pub struct Out {
+    waiting: Waiting,
+    row: Row,
+}
+
+impl Model for Out {
+    ghost use Rattle.clk_trace.specs.Taking.{Buffered};
+
+    ghost Value = { Buffered };
+
+    ghost view = { λ o. o.waiting };
+}
+
+/// The text that waits for the sink.
+#[derive(Drop)]
+struct Waiting {
     buf: [u8; SIZE],
     len: usize,
     failed: bool,
 }
 
-impl Model for Out {
+impl Model for Waiting {
     ghost use Rattle.std.specs.Prelude.{◌≤◌, take};
     ghost use Rattle.clk_trace.specs.Taking.{Buffered};
 
@@ -61,16 +80,15 @@ fn write_all<K: Sink>(sink: &mut K, text: &[u8]) -> Result<(), Failed>
     Ok(())
 }
 
-impl Out {
-    /// An empty buffer, with no failed write behind it.
-    pub fn new() -> Out
-        ensures { result ≡ record { waiting = []; failed = false } }
+impl Waiting {
+    /// Puts a text behind what waits. There must be room for it.
+    fn keep(&mut self, text: &[u8])
+        requires { length self.old.waiting + length text.now ≤ 8192 }
+        ensures { self.new ≡ record { waiting = self.old.waiting ++ text.now; failed = self.old.failed } }
     {
-        Out {
-            buf: [0; SIZE],
-            len: 0,
-            failed: false,
-        }
+        let end = self.len + text.len();
+        self.buf[self.len..end].copy_from_slice(text);
+        self.len = end;
     }
 
     /// Writes what waits.
@@ -85,67 +103,44 @@ impl Out {
         self.len = 0;
     }
 
-    /// Writes a text past the buffer, in which nothing waits.
-    fn pass<K: Sink>(&mut self, sink: &mut K, text: &[u8])
-        requires { self.old.waiting ≡ [] }
-        ensures { Takes (progress_of K.written K.faults sink.old self.old)
-            (progress_of K.written K.faults sink.new self.new) text.now }
-    {
-        if !self.failed {
-            self.failed = write_all(sink, text).is_err();
-        }
-    }
-
-    /// Puts a text behind what waits. There must be room for it.
-    fn keep(&mut self, text: &[u8])
-        requires { length self.old.waiting + length text.now ≤ 8192 }
-        ensures { self.new ≡ record { waiting = self.old.waiting ++ text.now; failed = self.old.failed } }
-    {
-        let end = self.len + text.len();
-        self.buf[self.len..end].copy_from_slice(text);
-        self.len = end;
-    }
-
-    /// Appends a text, of any length.
+    /// Appends a text that fits the buffer.
     fn text<K: Sink>(&mut self, sink: &mut K, text: &[u8])
+        requires { length text.now ≤ 8192 }
         ensures { Takes (progress_of K.written K.faults sink.old self.old)
             (progress_of K.written K.faults sink.new self.new) text.now }
     {
         if text.len() > SIZE - self.len {
             self.flush(sink);
         }
-        if text.len() > SIZE {
-            self.pass(sink, text);
-        } else {
-            self.keep(text);
-        }
+        self.keep(text);
     }
+}
 
-    /// Appends a word.
-    fn part<K: Sink>(&mut self, sink: &mut K, part: &Part)
-        ensures { Takes (progress_of K.written K.faults sink.old self.old)
-            (progress_of K.written K.faults sink.new self.new) (part_text part.now) }
+impl Out {
+    /// An empty buffer, with no failed write behind it.
+    pub fn new() -> Out
+        ensures { result ≡ record { waiting = []; failed = false } }
     {
-        let mut digits = itoa::Buffer::new();
-        match part {
-            Part::Name(name) => self.text(sink, name.as_bytes()),
-            Part::Unsigned(n) => self.text(sink, digits.format(*n).as_bytes()),
-            Part::Signed(n) => self.text(sink, digits.format(*n).as_bytes()),
+        Out {
+            waiting: Waiting {
+                buf: [0; SIZE],
+                len: 0,
+                failed: false,
+            },
+            row: Row::new(),
         }
     }
 
-    /// Appends a line: its words, parted by one space each, and a line feed. The sink takes a beginning of what was
-    /// appended so far, and the rest waits. Once a write failed, now or before, the text goes nowhere.
+    /// Appends a line of at most 256 bytes: its words, parted by one space each, and a line feed. The sink takes a beginning
+    /// of what was appended so far, and the rest waits. Once a write failed, now or before, the text goes nowhere.
+    #[inline(always)]
     pub fn line<K: Sink>(&mut self, sink: &mut K, first: &Part, rest: &[Part])
+        requires { part_room first.now + sum_by part_room rest.now < 256 }
         ensures { Takes (progress_of K.written K.faults sink.old self.old)
             (progress_of K.written K.faults sink.new self.new) (line (part_text first.now ∷ map part_text rest.now)) }
     {
-        self.part(sink, first);
-        for part in rest {
-            self.text(sink, b" ");
-            self.part(sink, part);
-        }
-        self.text(sink, b"\n");
+        self.row.line(first, rest);
+        self.waiting.text(sink, self.row.text());
     }
 
     /// Writes what still waits; then nothing waits. The error is a write that failed, now or before, and then the sink
@@ -156,7 +151,11 @@ impl Out {
         ensures ok { OnOk result (self.new ≡ record { waiting = []; failed = false }) }
         ensures err { OnErr result (self.new.failed ≡ true) }
     {
-        self.flush(sink);
-        if self.failed { Err(WriteFault) } else { Ok(()) }
+        self.waiting.flush(sink);
+        if self.waiting.failed {
+            Err(WriteFault)
+        } else {
+            Ok(())
+        }
     }
 }

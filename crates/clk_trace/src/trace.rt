@@ -1,5 +1,6 @@
-//! A whole run: the boot, the events of each thread, and the history of each clock word.
+//! A whole run: the boot, the bring-up, the events of each thread, and the history of each clock word.
 use crate::event::Event;
+use clk_adjust::BroughtUp;
 use clk_machine::RawReading;
 use clk_num::List;
 use clk_words::Mode;
@@ -40,6 +41,8 @@ pub struct Trace {
     pub sched_offset: i64,
     /// What takes monotonic time to the scheduler clock: `__gtod_offset` there.
     pub gtod_offset: i64,
+    /// The bring-up of each CPU from 1.
+    pub ups: BroughtUp,
     /// Where every clock word opens.
     pub start_word: i64,
     /// The CPU of each thread.

@@ -33,11 +33,6 @@ timeout_few : (m : Plan) (b : Option BringUpPart) (cpu : ℕ) → IfThere IsBrin
 timeout_few m None cpu h = omega arith
 timeout_few m (Some part) cpu h = chosen_few (is_first_of_socket m cpu) part.first_us part.timeout_us h.first.2 h.timeout.2
 
-pub span_few : (m : Plan) (cpu : ℕ) → IsWithinLimits m → (limits_in m cpu).span ≤ 4000000000
-span_few m cpu limits =
-    let most : count_of m.nominal_khz * timeout_in m m.bringup cpu ≤ 4000000 * 1000000 = mul-le-mul limits.ranges.nominal.2 (timeout_few m m.bringup cpu limits.ranges.bringup) in
-    omega arith
-
 -- ---- fewer readings than room and tickets
 
 sides_add : (rs : List WarpReading) → length rs ≡ length (of_side Source rs) + length (of_side Target rs)

@@ -1,5 +1,5 @@
 -- What calls of a `Watch` leave of it.
-use Rattle.std.proofs.Common.{◌≡◌, ℕ, ◌+◌, ◌-◌, ◌^◌, ◌<◌, ◌≤◌, ℤ, List, [], ◌∷◌, ◌++◌, map, length, Option, Some, None, refl, sym, ◌∙◌, ap, subst, arith, length-append}
+use Rattle.std.proofs.Common.{◌≡◌, ℕ, ◌+◌, ◌<◌, ◌≤◌, ℤ, List, [], ◌∷◌, ◌++◌, length, Option, Some, None, refl, sym, ◌∙◌, ap, subst, arith, length-append}
 use Rattle.std.specs.Prelude.{Bool, true, false, ◌&&◌}
 use Rattle.std.proofs.lemmas.List.{length-map}
 use Rattle.clk_num.specs.Listed.{Listed}
@@ -11,7 +11,7 @@ use Rattle.clk_watch.specs.declared.attempt.Bracket.{Bracket}
 use Rattle.clk_watch.specs.declared.record.Outcome.{Outcome}
 use Rattle.clk_watch.specs.declared.record.SourceRecord.{SourceRecord}
 use Rattle.clk_watch.specs.declared.watched.Watched.{Watched}
-use Rattle.clk_watch.specs.Brackets.{retries_of, IsBracket, Tries, Brackets}
+use Rattle.clk_watch.specs.Brackets.{Tries, Brackets}
 use Rattle.clk_watch.specs.Fold.{outcome_of, is_lost, first_of, at_first, left_by, watched_at, attempts_of, last_of, pair_of, after_record, watch_after, IsReadBy, IsVisit, AreVisits}
 use Rattle.clk_watch.specs.Visiting.{IsRead, HasFlags, pair_in}
 use Rattle.clk_watch.specs.Watching.{Watching, kept_of, Visits, Checks}

@@ -1,9 +1,9 @@
 -- What an outcome leaves of the sources, by the pair of its bracket.
-use Rattle.std.proofs.Common.{rules, ◌≡◌, ℕ, ◌+◌, ◌-◌, ◌*◌, ◌^◌, ◌<◌, ◌≤◌, List, [], ◌∷◌, ◌++◌, map, set, length, Option, Some, None, refl, sym, ◌∙◌, ap, subst, arith, length-append}
-use Rattle.std.specs.Prelude.{Bool, true, false, nat_le, nat_lt, slice_index, unwrap_or, if◌then◌else◌}
+use Rattle.std.proofs.Common.{◌≡◌, ℕ, ◌-◌, ◌<◌, List, [], ◌∷◌, ◌++◌, map, set, length, Option, Some, None, refl, sym, ◌∙◌, ap, arith, length-append}
+use Rattle.std.specs.Prelude.{Bool, true, false, nat_le, slice_index, unwrap_or, if◌then◌else◌}
 use Rattle.std.specs.List.{All}
 use Rattle.std.proofs.lemmas.List.{get_or_at}
-use Rattle.std.proofs.lemmas.List.Elements.{All-map, All-set, All-get_or, All-weaker}
+use Rattle.std.proofs.lemmas.List.Elements.{All-map, All-set, All-get_or}
 use Rattle.clk_machine.specs.Plan.{Plan}
 use Rattle.clk_watch.specs.declared.attempt.Attempt.{Attempt}
 use Rattle.clk_watch.specs.declared.attempt.Bracket.{Bracket}
@@ -29,6 +29,12 @@ accepted_by true q cs wd c w e = (cc, cc)
 accepted_by false true cs wd c w e = absurd (cc)
 accepted_by false false cs wd c w e = absurd (cc)
 
+decided_by : (p q : Bool) (cs wd c w : ℕ) → Accepted cs wd ≡ unwrap_or (if p then Some (Accepted c w) else (if q then Some SkipBracket else None)) SlowBracket
+    → (if p then Some (Accepted c w) else (if q then Some SkipBracket else None)) ≡ Some (Accepted cs wd)
+decided_by true q cs wd c w e = ap Some (sym e)
+decided_by false true cs wd c w e = absurd (cc)
+decided_by false false cs wd c w e = absurd (cc)
+
 slow_by : (p q : Bool) (c w : ℕ) → SlowBracket ≡ unwrap_or (if p then Some (Accepted c w) else (if q then Some SkipBracket else None)) SlowBracket
     → (if p then Some (Accepted c w) else (if q then Some SkipBracket else None)) ≡ None
 slow_by true q c w e = absurd (cc)
@@ -42,6 +48,13 @@ pair_is m attempts cs wd b =
     let both = accepted_by (nat_le (watchdog_ns m (at 0) (at 2)) (skew_of m)) _ cs wd (at 1) (at 0) b.outcome_is in
     ap pair_of (last_is b.before b.last attempts b.attempts_are)
     ∙ (let a = both.0 in let e : pair_of b.last ≡ record { cs = cs; wd = wd } = ap (λ n. record { cs = n; wd = at 0 }) (sym a) ∙ ap (λ n. record { cs = cs; wd = n }) (sym both.1) in e)
+
+-- which decides so
+pub accepted_is : (m : Plan) (attempts : List Attempt) (cs wd : ℕ) → IsBracket m attempts (Accepted cs wd) → decided m (last_of attempts) ≡ Some (Accepted cs wd)
+accepted_is m attempts cs wd b =
+    let at = λ (i : ℕ). slice_index b.last.value i in
+    ap (decided m) (last_is b.before b.last attempts b.attempts_are)
+    ∙ decided_by (nat_le (watchdog_ns m (at 0) (at 2)) (skew_of m)) _ cs wd (at 1) (at 0) b.outcome_is
 
 -- and the last one of a slow bracket decides nothing
 pub slow_is : (m : Plan) (attempts : List Attempt) → IsBracket m attempts SlowBracket → decided m (last_of attempts) ≡ None

@@ -1,5 +1,5 @@
 -- How great masked differences, conversions and counters of sources are.
-use Rattle.std.proofs.Common.{◌≡◌, ℕ, ◌+◌, ◌-◌, ◌*◌, ◌/◌, ◌^◌, ◌<◌, ◌≤◌, ℤ, pos, negsuc, ◌+ℤ◌, ◌≤ℤ◌, length, ⊎_elim, sym, ap, ◌∙◌, arith}
+use Rattle.std.proofs.Common.{◌≡◌, ℕ, ◌+◌, ◌-◌, ◌*◌, ◌/◌, ◌^◌, ◌<◌, ◌≤◌, ℤ, pos, negsuc, ◌≤ℤ◌, length, ⊎_elim, sym, ap, ◌∙◌, arith}
 use Rattle.std.specs.Prelude.{nat_lt, if◌then◌else◌}
 use Rattle.std.proofs.Math.Nat.{mul-le-mul_left, mul-le-mul_right, le_of_mul-le-mul_right, mod-lt, mod-le}
 use Rattle.std.proofs.lemmas.Nat.{div-add-mod', pow-add, pow_pos}
@@ -10,12 +10,11 @@ use Rattle.clk_num.specs.declared.rate.Rate.{Rate}
 use Rattle.clk_num.specs.Conversion.{convert}
 use Rattle.clk_num.specs.Masked.{mask_of, turned, masked_delta}
 use Rattle.clk_num.specs.Rates.{max_seconds, source_rate}
-use Rattle.clk_num.specs.Range.{IsNear}
 use Rattle.clk_num.proofs.TrueTime.{convert_bounded}
 use Rattle.clk_num.proofs.Rating.{few_cycles}
-use Rattle.clk_machine.specs.Plan.{Plan, count_of, cpu_count}
+use Rattle.clk_machine.specs.Plan.{Plan, count_of}
 use Rattle.clk_machine.specs.Limits.{most_tickets, IsRateInKhz, IsWithinLimits}
-use Rattle.clk_machine.specs.Time.{time_at, count_at, source_plan_at, source_at, reference_at, rate_of, reference_rate}
+use Rattle.clk_machine.specs.Time.{time_at, count_at, source_plan_at, source_at, rate_of, reference_rate}
 use Rattle.clk_machine.proofs.Bounds.{time_below, cycles_few}
 use Rattle.clk_machine.proofs.Halving.{jumped_near}
 use Rattle.clk_watch.specs.Small.{IsSmall}

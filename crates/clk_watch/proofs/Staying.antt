@@ -1,13 +1,14 @@
 -- Sources that stay in, and sources that stay out.
-use Rattle.std.proofs.Common.{rules, ◌≡◌, ◌≢◌, ℕ, ◌+◌, ◌-◌, ◌<◌, ◌≤◌, pos, List, [], ◌∷◌, ◌++◌, map, set, length, get_or, Option, Some, None, refl, sym, ◌∙◌, ap, subst, ⊎_elim, arith, length-append}
-use Rattle.std.specs.Prelude.{Bool, true, false, IsTrue, nat_lt, slice_index, if◌then◌else◌}
+use Rattle.std.proofs.Common.{rules, ◌≡◌, ◌≢◌, ℕ, ◌<◌, ◌≤◌, pos, List, [], ◌∷◌, ◌++◌, map, set, length, Option, Some, None, refl, sym, ◌∙◌, ap, subst, ⊎_elim, arith, length-append}
+use Rattle.std.specs.Prelude.{Bool, true, false, ◌&&◌, IsTrue, slice_index, if◌then◌else◌}
 use Rattle.std.specs.Int.{abs_diff}
 use Rattle.std.specs.List.{All}
 use Rattle.std.proofs.lemmas.Bool.{cases_eq, cases_lt, le-ltb}
-use Rattle.std.proofs.lemmas.List.{get_or-map, get_or-set_same, get_or-set_other, get_or_past, get_or_append_left, get_or_at, length-map, length-set, set-get_or}
+use Rattle.std.proofs.lemmas.List.{get_or-map, get_or-set_same, get_or-set_other, get_or_past, get_or_append_left, get_or_at, length-map}
 use Rattle.std.proofs.lemmas.List.Elements.{All-nil, All-cons}
-use Rattle.clk_machine.specs.Plan.{Plan, count_of}
+use Rattle.clk_machine.specs.Plan.{Plan, SourcePlan, count_of}
 use Rattle.clk_machine.specs.Limits.{IsWithinLimits}
+use Rattle.clk_machine.specs.Time.{source_plan_at}
 use Rattle.clk_watch.specs.declared.attempt.Attempt.{Attempt}
 use Rattle.clk_watch.specs.declared.attempt.Bracket.{Bracket}
 use Rattle.clk_watch.specs.declared.attempt.Bracket.TheVariants.{Accepted, Skip as SkipBracket, Slow as SlowBracket}
@@ -16,11 +17,11 @@ use Rattle.clk_watch.specs.declared.record.Outcome.TheVariants.{Passed, Slow, Sk
 use Rattle.clk_watch.specs.declared.record.SourceRecord.{SourceRecord}
 use Rattle.clk_watch.specs.declared.watched.Pair.{Pair}
 use Rattle.clk_watch.specs.declared.watched.Watched.{Watched}
-use Rattle.clk_watch.specs.Brackets.{watchdog_ns, decided}
-use Rattle.clk_watch.specs.Fold.{source_ns, margin_of, compared, judged, outcome_of, is_lost, ends_check, unmarked, left_of, left_by, watched_at, attempts_of, last_of, pair_of, after_record, watch_after, ratings_of, IsCurrent, IsReadBy, IsVisit, AreVisits}
-use Rattle.clk_watch.specs.Laws.{IsHealthy, StaysHealthy, HealthyIsNeverDemoted, DemotedStaysOut}
+use Rattle.clk_watch.specs.Brackets.{watchdog_ns}
+use Rattle.clk_watch.specs.Fold.{source_ns, margin_of, compared, judged, outcome_of, is_lost, ends_check, first_of, at_first, unmarked, left_of, left_by, watched_at, attempts_of, last_of, pair_of, after_record, watch_after, ratings_of, IsCurrent, IsReadBy, IsVisit, AreVisits}
+use Rattle.clk_watch.specs.Laws.{IsHealthy, HealthyIsNeverDemoted, DemotedStaysOut, LostAtBootStaysOut}
 use Rattle.clk_watch.proofs.Growing.{length_left, length_after}
-use Rattle.clk_watch.proofs.Leaving.{pair_is, slow_is}
+use Rattle.clk_watch.proofs.Leaving.{accepted_is, slow_is}
 
 abbrev nothing : Watched
 nothing = record { kept = None; unstable = false; rating = 0 }
@@ -45,7 +46,7 @@ healthy_outcome m s w attempts (Some SkipBracket) read h = refl
 healthy_outcome m s w attempts (Some SlowBracket) read h = absurd (h.decides (slow_is m attempts read.1))
 healthy_outcome m s w attempts (Some (Accepted cs wd)) read h =
     kept_agrees m s w.kept (record { cs = cs; wd = wd })
-    (λ last kept. subst (λ (now : Pair). abs_diff (source_ns m s last.cs now.cs) (watchdog_ns m last.wd now.wd) ≤ margin_of m s) (pair_is m attempts cs wd read.1) (h.agrees last kept))
+    (λ last kept. h.agrees cs wd last (accepted_is m attempts cs wd read.1) kept)
 
 -- an outcome that loses nothing leaves its source stable
 stable_one : (outcome : Outcome) (now : Pair) (w : Watched) → is_lost outcome ≡ false → w.unstable ≡ false → (left_of outcome now w).unstable ≡ false
@@ -190,3 +191,23 @@ demoted_stays m attempts ws before r after l count v lost =
       λ place c. never_current m (watch_after attempts (after_record attempts r w) after) r.source place l all stays.1
           (subst (λ (x : List Watched). IsCurrent (ratings_of m x) place) (after_at attempts ws before r after) c),
     )
+
+-- ---- a source that was lost at boot
+
+abbrev no_source : SourcePlan
+no_source = record { tsc = false; rating = pos 0; margin = pos 0; khz = pos 0; nominal_khz = pos 0; bits = pos 0; jumps = [] }
+
+out_first : (tsc : Bool) (rating : ℕ) → IsTrue tsc → IsOut (record { kept = None; unstable = true && tsc; rating = if true && tsc then 0 else rating })
+out_first true rating h = (refl, refl)
+out_first false rating h = absurd (cc)
+
+pub lost_stays : LostAtBootStaysOut
+lost_stays m attempts records s l there tsc v =
+    let few : length (at_first m true) ≡ length m.source = length-map m.source (first_of true) in
+    let at : s < length (at_first m true) = omega (arith, few, there) in
+    let own = source_plan_at m s in
+    let out : IsOut (watched_at (at_first m true) s) =
+    subst IsOut (sym (get_or-map (first_of true) m.source s no_source nothing there)) (out_first own.tsc (count_of own.rating) tsc) in
+    let stays = out_stays m s attempts (at_first m true) records v at out in
+    let all : s < length (watch_after attempts (at_first m true) records) = omega (arith, at, length_after attempts (at_first m true) records) in
+    (stays.0, λ place c. never_current m (watch_after attempts (at_first m true) records) s place l all stays.1 c)

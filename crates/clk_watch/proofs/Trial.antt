@@ -1,7 +1,7 @@
 -- Attempts, one after another, and the bracket that they make.
-use Rattle.std.proofs.Common.{rules, ◌≡◌, ℕ, ◌+◌, ◌*◌, ◌<◌, ◌≤◌, ℤ, List, [], ◌∷◌, ◌++◌, length, Option, Some, None, append_assoc, sym, ◌∙◌, ap, subst, arith, length-append}
+use Rattle.std.proofs.Common.{rules, ◌≡◌, ℕ, ◌+◌, ◌≤◌, ℤ, List, [], ◌∷◌, ◌++◌, length, Option, None, append_assoc, sym, ◌∙◌, ap, subst, arith, length-append}
 use Rattle.std.specs.Prelude.{unwrap_or}
-use Rattle.std.specs.List.{All, flat_map}
+use Rattle.std.specs.List.{All}
 use Rattle.std.proofs.lemmas.List.{append-nil}
 use Rattle.std.proofs.lemmas.List.Elements.{All-nil, All-cons, All-append, All-push}
 use Rattle.std.proofs.lemmas.Grind.{flat_map-append}
@@ -12,7 +12,7 @@ use Rattle.clk_watch.specs.declared.attempt.Attempt.{Attempt}
 use Rattle.clk_watch.specs.declared.attempt.Bracket.{Bracket}
 use Rattle.clk_watch.specs.declared.attempt.Bracket.TheVariants.{Slow}
 use Rattle.clk_watch.specs.Draws.{DrawsEach}
-use Rattle.clk_watch.specs.Brackets.{decided, retries_of, IsRightAttempt, IsBracket, Tries, Brackets}
+use Rattle.clk_watch.specs.Brackets.{decided, retries_of, IsRightAttempt, Tries, Brackets}
 use Rattle.clk_watch.specs.Trying.{TriesOnce}
 use Rattle.clk_watch.proofs.Drawing.{no_draws, then_draws}
 

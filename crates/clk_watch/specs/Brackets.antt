@@ -46,6 +46,7 @@ watchdog_ns m last now = convert (masked_delta now last (count_of m.reference.bi
 -- the four readings of an attempt at source s, on this CPU, are those at its tickets
 pub record IsRightAttempt (m : Plan) (cpu : ℕ) (adjust : ℤ) (s : ℕ) (a : Attempt) : Type 0 where
   pub tickets : length a.ticket ≡ 4
+  pub values : length a.value ≡ 4
   pub before : slice_index a.value 0 ≡ watchdog_at m (slice_index a.ticket 0)
   pub source : slice_index a.value 1 ≡ source_reading m cpu adjust s (slice_index a.ticket 1)
   pub after : slice_index a.value 2 ≡ watchdog_at m (slice_index a.ticket 2)

@@ -1,12 +1,8 @@
 -- What a `Watch` keeps true of its fields. No public contract cites it.
-use Rattle.std.specs.Prelude.{◌≡◌, ℕ, ◌+◌, ◌*◌, ◌^◌, ◌≤◌, length, Option, Some, None}
+use Rattle.std.specs.Prelude.{◌≡◌, ◌+◌, ◌^◌, ◌≤◌, length}
 use Rattle.std.specs.List.{All}
-use Rattle.clk_machine.specs.Plan.{Plan, count_of}
+use Rattle.clk_machine.specs.Plan.{count_of}
 use Rattle.clk_machine.specs.Limits.{IsWithinLimits}
-use Rattle.clk_watch.specs.declared.attempt.Bracket.{Bracket}
-use Rattle.clk_watch.specs.declared.attempt.Bracket.TheVariants.{Accepted, Skip, Slow}
-use Rattle.clk_watch.specs.declared.watched.Pair.{Pair}
-use Rattle.clk_watch.specs.declared.watched.Watched.{Watched}
 use Rattle.clk_watch.specs.declared.watch.Watch.TheInside.{Inside}
 use Rattle.clk_watch.specs.Fold.{at_first, watch_after, AreVisits}
 use Rattle.clk_watch.specs.Small.{IsSmallWatched}

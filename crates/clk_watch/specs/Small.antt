@@ -3,7 +3,7 @@ use Rattle.std.specs.Prelude.{ℕ, ◌*◌, ◌^◌, ◌≤◌, Option, Some, No
 use Rattle.std.specs.List.{All}
 use Rattle.clk_watch.specs.declared.attempt.Attempt.{Attempt}
 use Rattle.clk_watch.specs.declared.attempt.Bracket.{Bracket}
-use Rattle.clk_watch.specs.declared.attempt.Bracket.TheVariants.{Accepted, Skip, Slow}
+use Rattle.clk_watch.specs.declared.attempt.Bracket.TheVariants.{Accepted}
 use Rattle.clk_watch.specs.declared.watched.Pair.{Pair}
 use Rattle.clk_watch.specs.declared.watched.Watched.{Watched}
 

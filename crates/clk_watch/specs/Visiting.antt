@@ -1,5 +1,5 @@
 -- What the parts of a visit do. No public contract cites these.
-use Rattle.std.specs.Prelude.{◌≡◌, ◌↔◌, ℕ, ◌+◌, ◌≤◌, Bool, ◌&&◌, IsTrue, ℤ, List, [], ◌∷◌, ◌++◌, map, length, Option, Some, None}
+use Rattle.std.specs.Prelude.{◌↔◌, ℕ, ◌+◌, ◌≤◌, Bool, ◌&&◌, IsTrue, ℤ, List, [], ◌∷◌, ◌++◌, map, length, Option, Some}
 use Rattle.clk_num.specs.Listed.{Listed}
 use Rattle.clk_ticket.specs.Time.{Time}
 use Rattle.clk_machine.specs.Plan.{Plan}

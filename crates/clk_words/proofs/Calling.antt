@@ -327,13 +327,6 @@ offset_behind own key place word self_is e = let g = ap (λ (p : Place). p.start
 pub cpu_low : (table own : TableId) (start key : Start) (cpu : ℕ) → Belongs table start own key → cpu < start.cpus → cpu < key.cpus
 cpu_low table own start key cpu b low = let e = ap (λ (s : Start). s.cpus) b.start_is in omega arith
 
--- what a store says, of the caller's view
-pub says_stamped : (m n : Me Step View) (v : View) (r : View → ℕ) (value x : ℤ) (word : ℕ) → n ≡ (stamped (r m.0) value m.0, m.1) → m.0 ≡ v → IsBitsOf value word → IsBitsOf x word
-    → n.0 ≡ stamped (r v) x v
-says_stamped m n v r value x word is e p q =
-    let same : value ≡ x = bits_keep value x word p q in
-    ap (λ (k : Me Step View). k.0) is ∙ ap (λ y. stamped (r m.0) y m.0) same ∙ ap (λ (u : View). stamped (r u) x u) e
-
 -- an exchange that was done, of the caller's view
 pub says_done : (turn : Turn Step) (m n : Me Step View) (found : ℕ) (v : View) (said : Step) → Exchanged turn m found n → found ≡ turn.first → turn.said ≡ some said → m.0 ≡ v → Makes v said n.0
 says_done turn m n found v said told e is same =

@@ -40,7 +40,3 @@ lifted_here v w s told e = subst (λ (u : View). IsTrue (has_lift u.seen s.word)
 
 pub lifted_still : (v w : View) (s : Step) (k : ℕ) → Lifts v s w → IsTrue (has_lift v.seen k) → IsTrue (has_lift w.seen k)
 lifted_still v w s k told has = subst (λ (u : View). IsTrue (has_lift u.seen k)) (sym told.view_is) (lift_more v.seen (s ∷ []) k has)
-
--- it may go on
-pub demotes_still : (v w : View) (s : Step) → Lifts v s w → MayDemote v → MayDemote w
-demotes_still v w s told may = subst MayDemote (sym told.view_is) (record { watch = may.watch; stable = may.stable })

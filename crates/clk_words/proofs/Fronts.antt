@@ -48,7 +48,3 @@ module _ {A : Type 0} where
   pub begins_none : (xs rest : List A) → xs ++ rest ≡ xs → rest ≡ []
   begins_none [] rest e = e
   begins_none (x ∷ xs) rest e = begins_none xs rest (cc)
-
--- what begins what was seen begins what is seen later
-pub fronts_more : {A : Type 0} (xs more : List A) (told : List (List A)) → All (λ front. Begins front xs) told → All (λ front. Begins front (xs ++ more)) told
-fronts_more {A} xs more told h = All-weaker (λ (front : List A). Begins front xs) (λ (front : List A). Begins front (xs ++ more)) (λ front b. begins_more front xs more b) told h

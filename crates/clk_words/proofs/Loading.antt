@@ -161,8 +161,3 @@ whole_clock v w word x told whole = subst StampsAreWhole (sym told.view_is) whol
 
 pub whole_offset : (v w : View) (x : ℤ) → FindsOffset v x w → StampsAreWhole v → StampsAreWhole w
 whole_offset v w x told whole = subst StampsAreWhole (sym told.view_is) whole
-
-pub whole_put : (r : Put) (v w : View) (said : Step) (word : ℕ) (old : ℤ) → OnDone r (λ s. (s ≡ said) × Makes v s w) → OnLost r (λ found. Loses v word old found w)
-    → StampsAreWhole v → StampsAreWhole w
-whole_put (Done s) v w said word old done lost whole = subst StampsAreWhole (sym done.1.view_is) whole
-whole_put (Lost found) v w said word old done lost whole = subst StampsAreWhole (sym lost.looks.view_is) whole

@@ -66,20 +66,6 @@ sits_giver number kind made taken later v w gift seated same is = subst (IsSeate
   watched = λ h. let left = watch_left gift v.gives h in watches_still gift v.modes.watch left.1 (seated.watched left.0);
 })
 
-pub sits_given : (number made : ℕ) (kind : SeatKind) (taken later : List (ℕ × Step)) (v w : View) (gift : SeatKind) → IsSeated number kind made taken v → later ≡ []
-    → cpu_of gift < v.start.cpus → w ≡ given_view gift v → IsSeated made gift 0 later w
-sits_given number made kind taken later v w gift seated same low is = subst (IsSeated made gift 0 later) (sym is) (record {
-  empty = same;
-  live = refl;
-  number_is = seated.made_is;
-  kind_is = refl;
-  made_is = refl;
-  within = low;
-  sound = All-nil (λ (l : Load). IsSoundAs v.start v.seen l.of l.value);
-  owned = λ c h. absurd (cc);
-  watched = λ h. absurd (cc);
-})
-
 -- a join
 module _ (number : ℕ) (kind : SeatKind) (made : ℕ) (taken : List (ℕ × Step)) (a : View) (n : ℕ) (other : SeatKind) (m : ℕ) (gone : List (ℕ × Step)) (b w : View)
     (mine : IsSeated number kind made taken a) (yours : IsSeated n other m gone b) (met : Settles (joint_view a b) w) where

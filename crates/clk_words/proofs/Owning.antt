@@ -54,9 +54,6 @@ has_filtered cpu n (m ∷ ms) e = at (has_filtered cpu n ms) (nat_eq m cpu) refl
 pub has_one : (m n : ℕ) → has_number (m ∷ []) n ≡ true → m ≡ n
 has_one m n e = ⊎_elim (λ (h : nat_eq m n ≡ true). eqb-true m n h) (λ (h : false ≡ true). absurd (cc)) (or_cases (nat_eq m n) false e)
 
-pub has_self : (n : ℕ) (ns : List ℕ) → has_number (n ∷ ns) n ≡ true
-has_self n ns = or_left (nat_eq n n) (has_number ns n) (eq-eqb n n refl)
-
 -- what may still be given after one kind is given, and of whom the giver is still the owner
 pub owner_left : (kind : SeatKind) (c : ℕ) (kinds : List SeatKind) → has_kind (gives_without kind kinds) (Owner c) ≡ true
     → (has_kind kinds (Owner c) ≡ true) × (same_kind (Owner c) kind ≡ false)

@@ -76,9 +76,6 @@ part_through p q r a b = record {
   after = record { rest = a.after.rest ++ b.after.rest; is = b.after.is ∙ ap (λ zs. zs ++ b.after.rest) a.after.is ∙ append_assoc p.after a.after.rest b.after.rest };
 }
 
-pub part_self : (p : Part) → PartBegins p p
-part_self p = record { zero_is = inr refl; after = begins_self p.after }
-
 -- of two parts of one list
 pub knows_joint : (c : Chain) (a b : Bool) (p q : Part) → Knows c p → Knows c q → Knows c (joint_part a b p q)
 knows_joint c a b p q k l = record { zero_is = zero_joint p.zero q.zero k.zero_is l.zero_is; after = after_joint a b k.after l.after }

@@ -1,5 +1,6 @@
 -- One history over all clock words.
 use Rattle.std.specs.Prelude.{◌≡◌, ℕ, ℤ, List, [], ◌∷◌, ◌++◌, filter, nat_eq, if◌then◌else◌, Bool, true, false, ◌&&◌, ◌||◌, ◌<◌, All, IsTrue}
+use Rattle.clk_base.specs.Chains.{IsChainBy}
 use Rattle.clk_num.specs.Wrapping.{raise}
 use Rattle.clk_words.specs.declared.opening.Mode.TheVariants.{Stable}
 use Rattle.clk_words.specs.declared.opening.Start.{Start}
@@ -76,5 +77,4 @@ steps_on w steps = filter (λ s. nat_eq s.word w) steps
 
 -- each step finds what the one before it left, and the first finds x
 abbrev pub IsChain : ℤ → List Step → Type 0
-IsChain x [] = Unit {0}
-IsChain x (s ∷ steps) = (s.old ≡ x) × IsChain s.new steps
+IsChain x steps = IsChainBy (λ (s : Step). s.old) (λ s. s.new) x steps

@@ -15,3 +15,4 @@ pub mod Seated
 pub mod FirstWords
 pub mod Calls
 pub mod Laws
+pub mod LowerWord

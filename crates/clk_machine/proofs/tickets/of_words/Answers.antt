@@ -6,12 +6,12 @@ use Rattle.clk_machine.proofs.tickets.of_words.Goals as goal
 pub of_cpus-requires-clause-scripts : goal.of_cpus-requires-clause-scripts
 of_cpus-requires-clause-scripts c =
     rw c.items.ensures (λ k d low. runnable (cpu_count (plan_of c.args.parts.now)) (get_or (map cpu_plan c.args.parts.now.cpu.items) k d).script
-    (c.requires.ranges.cpu k d low).script (c.requires.formed.cpus k d low).words)
+    (c.requires.cpu k d low).script)
 
 pub of_readers-requires-clause-scripts : goal.of_readers-requires-clause-scripts
 of_readers-requires-clause-scripts c =
     rw c.items-2.ensures (λ k d low. runnable (cpu_count (plan_of c.args.parts.now)) (get_or (map reader_plan c.args.parts.now.reader.items) k d).script
-    (c.requires.ranges.reader k d low).script (c.requires.formed.readers k d low).words)
+    (c.requires.reader k d low).script)
 
 pub returns-clause-count : goal.returns-clause-count
 returns-clause-count c =

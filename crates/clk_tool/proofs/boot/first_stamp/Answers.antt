@@ -1,13 +1,12 @@
-use Rattle.std.proofs.Common.{◌≡◌, List, [], ◌∷◌, length, refl, arith, rules, FitsSigned, w64, to_z-of_z, sym, subst, ap, ◌∙◌}
+use Rattle.std.proofs.Common.{◌≡◌, List, [], ◌∷◌, length, pos, refl, arith, rules, FitsSigned, w64, to_z-of_z, sym, subst, ap, ◌∙◌}
 use Rattle.std.proofs.lemmas.Int.{ints}
 use Rattle.clk_num.proofs.Heights.{difference_is}
 use Rattle.clk_ticket.specs.Time.{Time}
 use Rattle.clk_machine.specs.Limits.{most_tickets}
-use Rattle.clk_machine.specs.Records.{record_zero}
+use Rattle.clk_machine.specs.Records.{record_zero, IsRightReading}
 use Rattle.clk_machine.specs.declared.reading.Published.{Published}
 use Rattle.clk_machine.proofs.Readings.{first_readings_are_small}
 use Rattle.clk_latch.specs.Epoch.{Epoch}
-use Rattle.clk_trace.specs.RightReadings.{IsRightRaw}
 use Rattle.clk_tool.specs.Running.{IsSound}
 use Rattle.clk_tool.proofs.Opening.{opens_near}
 use Rattle.clk_tool.proofs.Sounding.{begin_sound, draws_sound, reads_sound}
@@ -37,7 +36,7 @@ returns-clause-stamped c =
     let small = first_readings_are_small m c.read-raw.new.seat.epoch.records c.read-raw.result c.requires.limits whole.records first_record (omega (arith, ticket)) read.reads.right in
     let near = opens_near m c.gtod-gtod.result c.read-raw.result.ns ns (omega (arith, ints, from, upto), omega (arith, ints, from, upto)) small in
     simp (difference_is, to_z-of_z) (record {
-      right = (c.gtod-gtod.ensures.time, subst (λ (ps : List Published). IsRightRaw m 0 ps c.read-raw.result) records read.reads.right);
+      right = (c.gtod-gtod.ensures.time, subst (λ (ps : List Published). IsRightReading m 0 (pos 0) ps c.read-raw.result) records read.reads.right);
       table = ap (λ (t : Time). t.table) read.draws.is ∙ ap (λ (t : Time). t.table) first.is ∙ ap (λ (t : Time). t.table) c.requires.epoch.is;
       blocks = rw (ap (λ (t : Time). t.blocks) read.draws.is, ap (λ (t : Time). t.blocks) first.is, ap (λ (t : Time). t.blocks) c.requires.epoch.is) refl;
       left = omega (arith, first_left, second_left, epoch_left);

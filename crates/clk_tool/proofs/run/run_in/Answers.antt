@@ -42,6 +42,7 @@ returns g c =
       starts = refl;
       sched_offset = refl;
       gtod_offset = refl;
+      ups = c.requires.room.ups;
       start_word = refl;
       cpu_of = rw c.requires.room.cpu_of.0 at c.push-2.ensures.items;
       threads = rw c.requires.room.threads.0 at c.push-3.ensures.items;

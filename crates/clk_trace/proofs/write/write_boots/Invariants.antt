@@ -1,7 +1,7 @@
 use Rattle.std.proofs.Common.{take}
 use Rattle.clk_base.specs.Text.{lines_from}
 use Rattle.clk_trace.specs.Taking.{Takes, progress_of}
-use Rattle.clk_trace.specs.TraceText.{boot_line}
+use Rattle.clk_trace.specs.TraceText.{boot_text}
 use Rattle.clk_trace.proofs.write.write_boots.Given as goal
 
 abbrev pub invariant-loop-boot : goal.invariant-loop-boot
@@ -9,4 +9,4 @@ invariant-loop-boot g l =
     Takes
     (progress_of g.K.Sink.written g.K.Sink.faults l.fn.sink l.fn.out)
     (progress_of g.K.Sink.written g.K.Sink.faults l.sink l.out)
-    (lines_from boot_line 0 (take l.boot-index l.boots))
+    (lines_from boot_text 0 (take l.boot-index l.boots))

@@ -1,7 +1,7 @@
 use Rattle.std.proofs.Common.{take}
 use Rattle.clk_base.specs.Text.{lines_from}
 use Rattle.clk_trace.specs.Taking.{Takes, progress_of}
-use Rattle.clk_trace.specs.TraceText.{step_line}
+use Rattle.clk_trace.specs.TraceText.{step_text}
 use Rattle.clk_trace.proofs.write.write_steps.Given as goal
 
 abbrev pub invariant-loop-step : goal.invariant-loop-step
@@ -9,4 +9,4 @@ invariant-loop-step g l =
     Takes
     (progress_of g.K.Sink.written g.K.Sink.faults l.fn.sink l.fn.out)
     (progress_of g.K.Sink.written g.K.Sink.faults l.sink l.out)
-    (lines_from step_line 0 (take l.step-index l.steps))
+    (lines_from step_text 0 (take l.step-index l.steps))

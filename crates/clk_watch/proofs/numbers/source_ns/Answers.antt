@@ -1,4 +1,4 @@
-use Rattle.std.proofs.Common.{◌≡◌, ◌^◌, ◌<◌, ◌≤◌, arith}
+use Rattle.std.proofs.Common.{◌≤◌, arith}
 use Rattle.clk_machine.proofs.Bounds.{width_few}
 use Rattle.clk_watch.proofs.Smallness.{source_small}
 use Rattle.clk_watch.proofs.numbers.source_ns.Goals as goal

@@ -1,4 +1,4 @@
-use Rattle.std.proofs.Common.{◌≡◌, ◌^◌, ◌<◌, ◌≤◌, ap, arith}
+use Rattle.std.proofs.Common.{◌≤◌, ap, arith}
 use Rattle.clk_machine.specs.declared.parts.ReferencePart.{ReferencePart}
 use Rattle.clk_machine.specs.Plan.{count_of}
 use Rattle.clk_machine.proofs.Bounds.{width_few}

@@ -1,5 +1,5 @@
-use Rattle.std.proofs.Common.{rules, ◌≡◌, ◌*◌, ◌^◌, ◌≤◌, arith}
-use Rattle.clk_machine.specs.Time.{counter_at, source_at}
+use Rattle.std.proofs.Common.{rules, ◌≡◌, arith}
+use Rattle.clk_machine.specs.Time.{counter_at}
 use Rattle.clk_machine.proofs.Bounds.{counter_small_twice}
 use Rattle.clk_watch.proofs.Smallness.{other_small}
 use Rattle.clk_watch.proofs.readings.source_cycles.Goals as goal

@@ -1,4 +1,4 @@
-use Rattle.std.proofs.Common.{◌≡◌, ◌<◌, length, get_or, refl, false, None, arith}
+use Rattle.std.proofs.Common.{◌<◌, length, get_or, refl, false, None, arith}
 use Rattle.std.proofs.lemmas.List.{get_or_default}
 use Rattle.clk_machine.proofs.Summing.{map_more}
 use Rattle.clk_watch.specs.declared.watched.Watched.{Watched}

@@ -1,4 +1,4 @@
-use Rattle.std.proofs.Common.{◌≡◌, ◌+◌, ◌*◌, ◌≤◌, Option, sym, ap, ◌∙◌, arith}
+use Rattle.std.proofs.Common.{Option, sym, ap, ◌∙◌, arith}
 use Rattle.std.specs.Prelude.{unwrap_or}
 use Rattle.clk_watch.specs.declared.attempt.Bracket.{Bracket}
 use Rattle.clk_watch.specs.declared.attempt.Bracket.TheVariants.{Slow}

@@ -1,4 +1,3 @@
-use Rattle.std.proofs.Common.{◌≡◌}
 use Rattle.clk_watch.proofs.Trial.{one_try}
 use Rattle.clk_watch.proofs.tries.try_once.Goals as goal
 

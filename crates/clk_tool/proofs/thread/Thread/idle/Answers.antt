@@ -20,6 +20,6 @@ returns c =
     let two = subst (λ ks. KeepsEvents u.ctx.call ks 1 c.keep_reading.new.self c.keep_tick.new.self) showed.second
     (subst (λ n. KeepsEvents n (kinds_of_tick c.idle-read.result.tick) 1 c.keep_reading.new.self c.keep_tick.new.self) same c.keep_tick.ensures) in
     let keeps = keeps_both u.ctx.call (showed.kind ∷ []) (showed.stamp ∷ showed.after ∷ []) 1 1 u c.keep_reading.new.self c.keep_tick.new.self one two in
-    made word.Idle (showed.kind ∷ showed.stamp ∷ showed.after ∷ []) 2 v u c.keep_tick.new.self (showed.kind, showed.stamp, showed.after, refl, showed.is, showed.is_stamp, showed.is_after) refl
+    made word.Idle (showed.kind ∷ showed.stamp ∷ showed.after ∷ []) 2 v u c.keep_tick.new.self showed.is refl
     (ap (λ (z : Site). z.call) told.keeps.site) showed.showed.runs showed.showed.spends (stands_after v u told.keeps)
     (ready_after v u c.requires.ready told.keeps showed.showed.sound) keeps (omega arith) (omega arith)

@@ -15,6 +15,6 @@ returns c =
     let at = subst (λ (z : Site). ShowsReading z (known v) c.local-reading.result (known u)) (site_is v c.requires.ready) told.shows in
     let showed = showed_reading (machine_of v) v.ctx.tickets.now.total v.ctx.call (known v) (known u) c.local-reading.result c.requires.ready.sound c.requires.left c.requires.ready.percpu at in
     let kinds = showed.kinds_are in
-    made word.Local (showed.kind ∷ []) 1 v u c.keep_reading.new.self (showed.kind, refl, showed.is) refl (ap (λ (z : Site). z.call) told.keeps.site)
+    made word.Local (showed.kind ∷ []) 1 v u c.keep_reading.new.self showed.is refl (ap (λ (z : Site). z.call) told.keeps.site)
     showed.showed.runs showed.showed.spends (stands_after v u told.keeps) (ready_after v u c.requires.ready told.keeps showed.showed.sound)
     (rw kinds at c.keep_reading.ensures) (omega arith) (omega arith)

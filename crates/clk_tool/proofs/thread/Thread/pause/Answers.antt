@@ -1,5 +1,6 @@
-use Rattle.std.proofs.Common.{refl, arith, ap, ◌∙◌, sym, rules, append-nil}
+use Rattle.std.proofs.Common.{[], ◌∷◌, refl, arith, ap, ◌∙◌, sym, rules, append-nil}
 use Rattle.clk_ticket.specs.Time.{Time}
+use Rattle.clk_trace.specs.declared.event.EventKind.TheVariants.{Pause}
 use Rattle.clk_tool.proofs.Showing.{no_look}
 use Rattle.clk_tool.proofs.Sounding.{draws_sound}
 use Rattle.clk_tool.proofs.thread.Thread.pause.Goals as goal
@@ -12,8 +13,9 @@ returns c =
     let left = ap (λ (t : Time). t.left) drew.is in
     let within = c.requires.left.1 in
     record {
-      kinds = _;
-      calls = (_, refl, refl);
+      kinds = Pause c.draw-ticket.result c.args.count ∷ [];
+      calls = refl;
+      few = omega arith;
       makes = record {
         events = c.push.ensures.items;
         runs = (_, _, no_look _, record { draws = drew; epoch_is = refl; view_is = refl }, refl);

@@ -1,6 +1,7 @@
-use Rattle.std.proofs.Common.{refl, arith, ap, ◌∙◌, sym, rules, append-nil}
+use Rattle.std.proofs.Common.{[], ◌∷◌, refl, arith, ap, ◌∙◌, sym, rules, append-nil}
 use Rattle.clk_ticket.specs.Time.{Time}
 use Rattle.clk_latch.specs.Epoch.{Epoch}
+use Rattle.clk_trace.specs.declared.event.EventKind.TheVariants.{Update}
 use Rattle.clk_tool.proofs.Showing.{no_look}
 use Rattle.clk_tool.proofs.Sounding.{sound_base, updates_sound}
 use Rattle.clk_tool.proofs.thread.Thread.update.Goals as goal
@@ -16,8 +17,9 @@ returns c =
     let updates = ap (λ (e : Epoch). e.left) told.updates.is in
     let some = c.requires.updates in
     record {
-      kinds = _;
-      calls = (_, refl, tt);
+      kinds = Update c.update-published.result ∷ [];
+      calls = tt;
+      few = omega arith;
       makes = record {
         events = c.push.ensures.items;
         runs = (_, _, no_look _, record { updates = updates_told; draws = told.draws; view_is = refl }, refl);

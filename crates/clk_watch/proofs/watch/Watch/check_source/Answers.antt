@@ -1,6 +1,5 @@
-use Rattle.std.proofs.Common.{◌≡◌, ◌^◌, List, [], ◌∷◌, ◌++◌, length, sym, ◌∙◌, ap, subst, refl}
+use Rattle.std.proofs.Common.{◌^◌, length, sym, ◌∙◌, ap, subst, refl}
 use Rattle.clk_machine.specs.Plan.{Plan}
-use Rattle.clk_watch.specs.declared.record.SourceRecord.{SourceRecord}
 use Rattle.clk_watch.specs.Fold.{at_first, watch_after, AreVisits}
 use Rattle.clk_watch.specs.Watching.{Watching, Visits}
 use Rattle.clk_watch.proofs.Calling.{sources_all, room_still, more_visits, checks}

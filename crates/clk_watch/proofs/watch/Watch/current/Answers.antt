@@ -1,4 +1,4 @@
-use Rattle.std.proofs.Common.{◌≡◌, length, ap, ◌∙◌, arith}
+use Rattle.std.proofs.Common.{length, ap, arith}
 use Rattle.clk_watch.proofs.Calling.{sources_all}
 use Rattle.clk_watch.proofs.watch.Watch.current.Goals as goal
 

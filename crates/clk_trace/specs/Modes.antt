@@ -1,0 +1,41 @@
+-- In which mode of the clock an event may stand.
+use Rattle.std.specs.Prelude.{◌≡◌, ℤ, ◌+ℤ◌, Bool, true, false, not, IsTrue, IsFalse}
+use Rattle.clk_num.specs.Wrapping.{wrap}
+use Rattle.clk_words.specs.declared.opening.Mode.{Mode}
+use Rattle.clk_words.specs.declared.opening.Mode.TheVariants as mode
+use Rattle.clk_trace.specs.declared.event.EventKind.{EventKind}
+use Rattle.clk_trace.specs.declared.event.EventKind.TheVariants.{Stable, Local, Couple, Stamp, Nothing, Update, Pause}
+use Rattle.clk_trace.specs.declared.trace.Trace.{Trace}
+
+abbrev pub is_stable : Mode → Bool
+is_stable mode.Stable = true
+is_stable mode.PerCpu = false
+
+-- which events a run may show: those of the stable clock, and those of per-CPU clocks
+pub record Modes : Type 0 where
+  pub stable : Bool
+  pub percpu : Bool
+
+-- with no demotion the clock stays as it starts
+abbrev pub modes_of : Trace → Modes
+modes_of t = record { stable = is_stable t.starts; percpu = not (is_stable t.starts) }
+
+-- an event may stand, where `turned` tells whether its thread made a per-CPU reading before; a stable reading is the raw
+-- clock with the offset
+abbrev pub IsOfMode : Modes → ℤ → Bool → EventKind → Type 0
+IsOfMode m offset turned (Stable raw value) = IsTrue m.stable × IsFalse turned × (value ≡ wrap (raw.ns +ℤ offset))
+IsOfMode m offset turned (Local raw tick_raw tick_gtod shown old new) = IsTrue m.percpu
+IsOfMode m offset turned (Couple cpu own other word old new) = IsTrue m.percpu
+IsOfMode m offset turned (Stamp gtod_ticket gtod raw) = IsTrue m.percpu
+IsOfMode m offset turned Nothing = IsTrue m.stable × IsFalse turned
+IsOfMode m offset turned (Update p) = Unit {0}
+IsOfMode m offset turned (Pause ticket count) = Unit {0}
+
+abbrev pub turned_after : Bool → EventKind → Bool
+turned_after turned (Stable raw value) = turned
+turned_after turned (Local raw tick_raw tick_gtod offset old new) = true
+turned_after turned (Couple cpu own other word old new) = turned
+turned_after turned (Stamp gtod_ticket gtod raw) = turned
+turned_after turned Nothing = turned
+turned_after turned (Update p) = turned
+turned_after turned (Pause ticket count) = turned
