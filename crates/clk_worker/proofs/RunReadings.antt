@@ -1,0 +1,136 @@
+-- The readings of a run are right: the latch's owner reads by the last of its own records.
+use Rattle.std.proofs.Common.{◌≡◌, ℕ, ◌+◌, ℤ, true, List, [], ◌∷◌, ◌++◌, length, ap, ◌∙◌, sym, subst, arith, length-append, append_assoc, append-nil}
+use Rattle.std.specs.List.{All}
+use Rattle.std.proofs.lemmas.List.Elements.{All-nil, All-cons}
+use mathlib.Core.List.{IsPrefix}
+use Rattle.clk_base.specs.Walk.{Along}
+use Rattle.clk_machine.specs.Plan.{Plan}
+use Rattle.clk_machine.specs.Records.{record_zero, IsNextRecord}
+use Rattle.clk_machine.specs.declared.reading.Published.{Published}
+use Rattle.clk_latch.specs.Epoch.{Epoch}
+use Rattle.clk_latch.specs.Calls.{last_of}
+use Rattle.clk_latch.proofs.Updating.{last_is}
+use Rattle.clk_latch.proofs.Staying.{stay_right}
+use Rattle.clk_local.specs.Context.{Site, Known}
+use Rattle.clk_trace.specs.Updates.{update_of_kind, updates_of, OwnsRecords, record_after}
+use Rattle.clk_trace.specs.RightReadings.{IsRightKind}
+use Rattle.clk_trace.specs.declared.event.Event.{Event}
+use Rattle.clk_trace.specs.declared.event.EventKind.{EventKind}
+use Rattle.clk_trace.specs.declared.event.EventKind.TheVariants.{Stable, Local, Couple, Stamp, Nothing, Update, Pause}
+use Rattle.clk_worker.specs.Running.{Shows, HasLooked, Runs, at_call}
+
+-- what the clock's seat has of the latch
+abbrev pub records_in : Known → List Published
+records_in v = v.epoch.records
+
+abbrev pub IsOwner : Known → Type 0
+IsOwner v = v.epoch.owner ≡ true
+
+-- looks leave the owner what it is
+looked_owner : (v w : Known) → HasLooked v w → IsOwner v → IsOwner w
+looked_owner v w h own = ap (λ (e : Epoch). e.owner) h.epoch_is ∙ own
+
+-- so does an event, which adds the record that it published
+shows_owner : (z : Site) (v : Known) (k : EventKind) (w : Known) → Shows z v k w → IsOwner v → IsOwner w
+shows_owner z v (Stable raw value) w h own = absurd h
+shows_owner z v (Local raw tick_raw tick_gtod offset old new) w h own = h.raised.reads.reads.kept.0 ∙ own
+shows_owner z v (Couple asked mine other word old new) w h own = ap (λ (e : Epoch). e.owner) h.coupled.epoch_is ∙ own
+shows_owner z v (Stamp gtod_ticket gtod raw) w h own = h.reads.reads.kept.0 ∙ own
+shows_owner z v Nothing w h own = absurd h
+shows_owner z v (Update p) w h own = ap (λ (e : Epoch). e.owner) h.updates.is ∙ own
+shows_owner z v (Pause ticket count) w h own = ap (λ (e : Epoch). e.owner) h.epoch_is ∙ own
+
+shows_records : (z : Site) (v : Known) (k : EventKind) (w : Known) → Shows z v k w → IsOwner v → records_in w ≡ records_in v ++ update_of_kind k
+shows_records z v (Stable raw value) w h own = absurd h
+shows_records z v (Local raw tick_raw tick_gtod offset old new) w h own = h.raised.reads.reads.owner own ∙ sym (append-nil (records_in v))
+shows_records z v (Couple asked mine other word old new) w h own = ap (λ (e : Epoch). e.records) h.coupled.epoch_is ∙ sym (append-nil (records_in v))
+shows_records z v (Stamp gtod_ticket gtod raw) w h own = h.reads.reads.owner own ∙ sym (append-nil (records_in v))
+shows_records z v Nothing w h own = absurd h
+shows_records z v (Update p) w h own = ap (λ (e : Epoch). e.records) h.updates.is
+shows_records z v (Pause ticket count) w h own = ap (λ (e : Epoch). e.records) h.epoch_is ∙ sym (append-nil (records_in v))
+
+pub runs_records : (z : Site) (v : Known) (es : List Event) (w : Known) → Runs z v es w → IsOwner v → records_in w ≡ records_in v ++ updates_of es
+runs_records z v [] w r own = rw (← r) (sym (append-nil (records_in v)))
+runs_records z v (e ∷ es) w r own =
+    let here = looked_owner v r.0 r.2 own in
+    runs_records z r.1 es w r.4 (shows_owner (at_call z e.call) r.0 e.kind r.1 r.3 here)
+    ∙ ap (λ (xs : List Published). xs ++ updates_of es) (shows_records (at_call z e.call) r.0 e.kind r.1 r.3 here)
+    ∙ ap (λ (x : Epoch). (x.records ++ update_of_kind e.kind) ++ updates_of es) r.2.epoch_is
+    ∙ append_assoc (records_in v) (update_of_kind e.kind) (updates_of es)
+
+-- a reading is right by the records that its seat has then, and by more of them
+shows_right : (z : Site) (v : Known) (k : EventKind) (w : Known) → Shows z v k w → IsRightKind z.machine z.cpu z.adjust (records_in w) k
+shows_right z v (Stable raw value) w h = absurd h
+shows_right z v (Local raw tick_raw tick_gtod offset old new) w h = h.raised.reads.reads.right
+shows_right z v (Couple asked own other word old new) w h = tt
+shows_right z v (Stamp gtod_ticket gtod raw) w h = (h.gtod_is, h.reads.reads.right)
+shows_right z v Nothing w h = absurd h
+shows_right z v (Update p) w h = tt
+shows_right z v (Pause ticket count) w h = tt
+
+right_more : (m : Plan) (cpu : ℕ) (adjust : ℤ) (records more : List Published) (k : EventKind) → IsPrefix records more → IsRightKind m cpu adjust records k → IsRightKind m cpu adjust more k
+right_more m cpu adjust records more (Stable raw value) begins h = stay_right m cpu adjust records more raw begins h
+right_more m cpu adjust records more (Local raw tick_raw tick_gtod offset old new) begins h = stay_right m cpu adjust records more raw begins h
+right_more m cpu adjust records more (Couple asked own other word old new) begins h = tt
+right_more m cpu adjust records more (Stamp gtod_ticket gtod raw) begins h = (h.0, stay_right m cpu adjust records more raw begins h.1)
+right_more m cpu adjust records more Nothing begins h = tt
+right_more m cpu adjust records more (Update p) begins h = tt
+right_more m cpu adjust records more (Pause ticket count) begins h = tt
+
+pub runs_right : (z : Site) (v : Known) (es : List Event) (w : Known) → Runs z v es w → IsOwner v → All (λ e. IsRightKind z.machine z.cpu z.adjust (records_in w) e.kind) es
+runs_right z v [] w r own = All-nil (λ e. IsRightKind z.machine z.cpu z.adjust (records_in w) e.kind)
+runs_right z v (e ∷ es) w r own =
+    let still = shows_owner (at_call z e.call) r.0 e.kind r.1 r.3 (looked_owner v r.0 r.2 own) in
+    All-cons (λ e. IsRightKind z.machine z.cpu z.adjust (records_in w) e.kind) e es
+    (right_more z.machine z.cpu z.adjust (records_in r.1) (records_in w) e.kind (updates_of es, sym (runs_records z r.1 es w r.4 still)) (shows_right (at_call z e.call) r.0 e.kind r.1 r.3))
+    (runs_right z r.1 es w r.4 still)
+
+-- ---- it names the last record, and an update publishes the one after it
+
+-- the last of the owner's records, by whose number they are counted
+pub record EndsBy (last : Published) (zero : Published) (v : Known) : Type 0 where
+  pub is : last_of zero (records_in v) ≡ last
+  pub count : length (records_in v) ≡ last.rec + 1
+
+ends_same : (last zero : Published) (v w : Known) → records_in w ≡ records_in v → EndsBy last zero v → EndsBy last zero w
+ends_same last zero v w same h = record { is = ap (last_of zero) same ∙ h.is; count = ap length same ∙ h.count }
+
+-- one event: it goes by the last record, and leaves a last one
+shows_owned : (z : Site) (v : Known) (k : EventKind) (w : Known) (last : Published) → Shows z v k w → IsOwner v → EndsBy last (record_zero z.machine) v
+    → OwnsRecords z.machine z.cpu z.adjust last k × EndsBy (record_after last k) (record_zero z.machine) w
+shows_owned z v (Stable raw value) w last h own ends = absurd h
+shows_owned z v (Local raw tick_raw tick_gtod offset old new) w last h own ends =
+    let same = h.raised.reads.reads.owner own in
+    let count = ap length same in
+    let named = h.raised.reads.reads.last in
+    let had = ends.count in
+    (omega (arith, count, named, had), ends_same last (record_zero z.machine) v w same ends)
+shows_owned z v (Couple asked mine other word old new) w last h own ends =
+    (tt, ends_same last (record_zero z.machine) v w (ap (λ (e : Epoch). e.records) h.coupled.epoch_is) ends)
+shows_owned z v (Stamp gtod_ticket gtod raw) w last h own ends =
+    let same = h.reads.reads.owner own in
+    let count = ap length same in
+    let named = h.reads.reads.last in
+    let had = ends.count in
+    (omega (arith, count, named, had), ends_same last (record_zero z.machine) v w same ends)
+shows_owned z v Nothing w last h own ends = absurd h
+shows_owned z v (Update p) w last h own ends =
+    let next : IsNextRecord z.machine z.cpu z.adjust last p = subst (λ x. IsNextRecord z.machine z.cpu z.adjust x p) ends.is h.updates.next in
+    let grown : records_in w ≡ records_in v ++ p ∷ [] = ap (λ (e : Epoch). e.records) h.updates.is in
+    let number = h.updates.number in (
+      next,
+      record {
+        is = last_is (record_zero z.machine) p (records_in w) (records_in v) grown;
+        count = ap length grown ∙ length-append (records_in v) (p ∷ []) ∙ ap (λ n. n + 1) (sym number);
+      },
+    )
+shows_owned z v (Pause ticket count) w last h own ends =
+    (tt, ends_same last (record_zero z.machine) v w (ap (λ (e : Epoch). e.records) h.epoch_is) ends)
+
+pub runs_owned : (z : Site) (v : Known) (es : List Event) (w : Known) (last : Published) → Runs z v es w → IsOwner v → EndsBy last (record_zero z.machine) v
+    → Along (λ r e. OwnsRecords z.machine z.cpu z.adjust r e.kind) (λ r e. record_after r e.kind) last es
+runs_owned z v [] w last r own ends = tt
+runs_owned z v (e ∷ es) w last r own ends =
+    let here = looked_owner v r.0 r.2 own in
+    let one = shows_owned (at_call z e.call) r.0 e.kind r.1 last r.3 here (ends_same last (record_zero z.machine) v r.0 (ap (λ (x : Epoch). x.records) r.2.epoch_is) ends) in
+    (one.0, runs_owned z r.1 es w (record_after last e.kind) r.4 (shows_owner (at_call z e.call) r.0 e.kind r.1 r.3 here) one.1)

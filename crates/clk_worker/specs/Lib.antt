@@ -1,0 +1,3 @@
+pub mod Running
+pub mod Calling
+pub mod Making

@@ -1,0 +1,28 @@
+//! A thread of a run: its seats at the shared clock, and its script, word by word.
+//!
+//! A [`Shared`] is what the threads of a run use together: the clock words, the latch and the adjustment of each CPU, the
+//! tickets, and the machine. A [`Worker`] is one thread: its seats, the place in its script, and its events so far. A word
+//! is one call at the clock, and `run` makes all words that are left. Before each word the worker passes a gate, which may
+//! hold it there.
+//!
+//! It promises that the events of a word are those that its script calls for, and that each of them shows what the seats
+//! found: so the events of a worker are a chain from how it was made to how it is. How a worker is says with which shared
+//! things it may go on, so that a call asks for those alone. No call takes memory: the list of events has room for the
+//! whole script, three events a word.
+//!
+//! It promises no order between the workers of a run beyond the history of the clock words. So far a worker is a CPU's own
+//! thread, and its clock is per-CPU from the start.
+//!
+//! How it works: a word takes the seats out of the worker, puts them with the shared things into the context of a call,
+//! keeps the call's answer as events, and puts the seats back.
+#![tactic(auto)]
+
+mod calls;
+mod keep;
+mod own;
+mod shared;
+mod worker;
+
+pub use own::{Own, Post};
+pub use shared::Shared;
+pub use worker::Worker;
