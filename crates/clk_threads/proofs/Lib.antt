@@ -1,0 +1,17 @@
+pub mod Filling
+pub mod Giving
+pub mod Sharing
+pub mod Stamping
+pub mod LawfulLists
+pub mod LawfulThreads
+pub mod LawfulTickets
+pub mod Lawful
+pub mod Built
+pub mod Seating
+pub mod Gathering
+pub mod Beginning
+pub mod Leaving
+pub mod Rooms
+pub mod Closing
+pub mod Opening
+pub mod Lasts

@@ -1,0 +1,104 @@
+-- What the boot leaves.
+use Rattle.std.specs.Prelude.{◌≡◌, ◌+◌, ◌*◌, ◌^◌, ◌≤◌, true, ℤ, pos, ◌+ℤ◌, ◌-ℤ◌, List, [], ◌∷◌, length, if◌then◌else◌}
+use Rattle.std.specs.List.{All}
+use Rattle.clk_base.specs.Blocks.{AllEndBy, Rises}
+use Rattle.clk_num.specs.Range.{IsNear, IsFrom0To}
+use Rattle.clk_num.specs.Wrapping.{wrap}
+use Rattle.clk_ticket.specs.Time.{Tickets, Time, Draws, fresh, share_of}
+use Rattle.clk_words.specs.declared.opening.Mode.TheVariants.{Stable, PerCpu}
+use Rattle.clk_words.specs.declared.opening.Opening.{Opening}
+use Rattle.clk_words.specs.Bounds.{IsGtod, opens_of, IsOpening}
+use Rattle.clk_machine.specs.Plan.{Plan}
+use Rattle.clk_machine.specs.Limits.{most_tickets, IsWithinLimits}
+use Rattle.clk_machine.specs.Tickets.{boot_tickets}
+use Rattle.clk_machine.specs.Records.{record_zero, above_base}
+use Rattle.clk_latch.specs.Epoch.{Epoch}
+use Rattle.clk_trace.specs.TicketOrder.{boot_blocks}
+use Rattle.clk_trace.specs.RightReadings.{IsRightStamp}
+use Rattle.clk_trace.specs.Stamps.{no_pair, first_pair, last_pair}
+use Rattle.clk_trace.specs.declared.trace.StableStamp.{StableStamp}
+use Rattle.clk_threads.specs.declared.booted.Booted.{Booted}
+use Rattle.clk_threads.specs.declared.booted.Started.{Started}
+
+-- the epoch drew ticket 0 of the whole of a table
+abbrev pub HasEpoch : Tickets → Time → Type 0
+HasEpoch tickets time = Draws (fresh tickets.table most_tickets 0) 0 1 time
+
+-- ---- a stamp
+
+-- the boot may stamp: by record 0, on the owner's seat, with two tickets
+pub record MayStamp (m : Plan) (tickets : Tickets) (time : Time) (epoch : Epoch) : Type 0 where
+  pub owner : epoch.owner ≡ true
+  pub records : epoch.records ≡ record_zero m ∷ []
+  pub table : time.table ≡ tickets.table
+  pub left : 2 ≤ time.left
+
+-- the stamp is right, drew the next two tickets, and its values are small
+pub record HasStamped (m : Plan) (before after : Time) (epoch : Epoch) (s : StableStamp) : Type 0 where
+  pub right : IsRightStamp m s
+  pub gtod_small : IsGtod s.gtod
+  pub raw_small : IsFrom0To (6 * 2 ^ 52) (above_base m s.raw.ns)
+  pub offset : s.offset ≡ wrap (s.raw.ns -ℤ s.gtod)
+  pub middle : Time
+  pub first : Draws before s.gtod_ticket 1 middle
+  pub second : Draws middle s.raw.ticket 1 after
+  pub owner : epoch.owner ≡ true
+  pub records : epoch.records ≡ record_zero m ∷ []
+
+-- ---- the start
+
+-- the offsets by these stamps: the first takes monotonic time to the raw clock, and in a stable start the last takes the raw
+-- clock there
+abbrev pub gtod_offset_of : List StableStamp → ℤ
+gtod_offset_of stamps = wrap ((first_pair no_pair stamps).raw -ℤ (first_pair no_pair stamps).gtod)
+
+abbrev pub stable_offset_of : List StableStamp → ℤ
+stable_offset_of stamps = wrap (((last_pair no_pair stamps).gtod +ℤ gtod_offset_of stamps) -ℤ (last_pair no_pair stamps).raw)
+
+abbrev pub sched_offset_of : Plan → List StableStamp → ℤ
+sched_offset_of m stamps = if m.stable then stable_offset_of stamps else pos 0
+
+-- the clock words open by the last stamp
+abbrev pub opening_of : Plan → List StableStamp → Opening
+opening_of m stamps = record {
+  mode = if m.stable then Stable else PerCpu;
+  offset = gtod_offset_of stamps;
+  tick_gtod = (last_pair no_pair stamps).gtod;
+  tick_raw = (last_pair no_pair stamps).raw;
+}
+
+-- the stamps of a start: right, and such that the words open near the machine's base
+pub record AreStamps (m : Plan) (stamps : List StableStamp) : Type 0 where
+  pub count : length stamps ≡ (if m.stable then 2 else 1)
+  pub right : All (IsRightStamp m) stamps
+  pub offsets : All (λ s. s.offset ≡ gtod_offset_of stamps) stamps
+  pub opening : IsOpening (opening_of m stamps)
+  pub near : IsFrom0To (2 ^ 57) (above_base m (opens_of (opening_of m stamps)))
+  pub sched_near : IsNear 57 (sched_offset_of m stamps)
+
+-- the seat drew the tickets of the epoch and of these stamps, the first of the run, and has the rest
+pub record HasDrawnFirst (m : Plan) (tickets : Tickets) (stamps : List StableStamp) (time : Time) : Type 0 where
+  pub table : time.table ≡ tickets.table
+  pub blocks : time.blocks ≡ boot_blocks 0 stamps
+  pub left : time.left + boot_tickets m ≡ most_tickets
+  pub share : share_of time ≡ most_tickets
+  pub rises : Rises time.blocks
+  pub ends : AllEndBy time.seen time.blocks
+
+pub record HasStarted (m : Plan) (tickets : Tickets) (time : Time) (s : Started) : Type 0 where
+  pub stamps : AreStamps m s.stamps.items
+  pub drawn : HasDrawnFirst m tickets s.stamps.items time
+  pub sched_offset : s.sched_offset ≡ sched_offset_of m s.stamps.items
+  pub gtod_offset : s.gtod_offset ≡ gtod_offset_of s.stamps.items
+
+-- ---- the boot
+
+pub record IsBooted (m : Plan) (b : Booted) : Type 0 where
+  pub limits : IsWithinLimits m
+  pub machine : b.machine ≡ m
+  pub total : b.tickets.total ≡ most_tickets
+  pub epoch : b.epoch ≡ record_zero m
+  pub stamps : AreStamps m b.stamps.items
+  pub drawn : HasDrawnFirst m b.tickets b.stamps.items b.time
+  pub sched_offset : b.sched_offset ≡ sched_offset_of m b.stamps.items
+  pub gtod_offset : b.gtod_offset ≡ gtod_offset_of b.stamps.items

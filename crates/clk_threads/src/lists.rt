@@ -1,0 +1,131 @@
+//! The lists that a run fills.
+ghost use Rattle.std.specs.Prelude.{◌≡◌, ◌+◌, ◌≤◌, ◌*◌, IfOk, [], length, map};
+ghost use Rattle.clk_base.specs.Walk.{EachFrom};
+ghost use Rattle.clk_machine.specs.Plan.{threads_of, cpu_count};
+ghost use Rattle.clk_trace.specs.LawfulTrace.{IsUntested};
+ghost use Rattle.clk_threads.specs.Preparing.{no_events, steps_room, histories_below, AreLists};
+
+use clk_adjust::{CpuUp, UpOutcome};
+use clk_machine::Machine;
+use clk_num::List;
+use clk_trace::{Event, HistoryStep};
+use clk_worker::Worker;
+use std::alloc::{AllocError, Global};
+
+/// A script word makes at most three events: those of `idle`.
+const EVENTS: usize = 3;
+
+/// All lists of a run, with their memory.
+#[derive(Drop)]
+pub struct Lists {
+    /// The CPU of each thread.
+    pub cpu_of: List<u32>,
+    /// The events of each thread: empty, with room for its script.
+    pub events: List<List<Event>>,
+    /// Empty, with room for what each thread leaves.
+    pub threads: List<List<Event>>,
+    /// The history of each clock word: empty, with room for the steps of all threads.
+    pub histories: List<List<HistoryStep>>,
+    /// The bring-up of each CPU from 1: none was tested.
+    pub ups: List<CpuUp>,
+    /// What is added to the counter of each CPU, in cycles: nothing.
+    pub adjusts: List<i64>,
+    /// Empty, with room for a worker of each thread.
+    pub workers: List<Worker>,
+}
+
+/// The lists of a run of this machine. The error is want of memory.
+pub(crate) fn make_lists(alloc: Global, machine: &Machine) -> Result<Lists, AllocError>
+    ensures { IfOk result (AreLists machine.now) }
+{
+    let threads = machine.threads() as usize;
+    let cpus = machine.cpus() as usize;
+    let cpu_of = list_cpus(machine, List::with_room(alloc, threads)?);
+    let mut events = List::with_room(alloc, threads)?;
+    fill_events(alloc, machine, &mut events)?;
+    let mut histories = List::with_room(alloc, cpus)?;
+    fill_histories(alloc, machine, &mut histories)?;
+    let mut ups = List::with_room(alloc, cpus)?;
+    list_ups(alloc, machine.cpus(), &mut ups)?;
+    Ok(Lists {
+        cpu_of,
+        events,
+        threads: List::with_room(alloc, threads)?,
+        histories,
+        ups,
+        adjusts: List::from_vec(vec![in alloc; 0i64; cpus]?),
+        workers: List::with_room(alloc, threads)?,
+    })
+}
+
+fn list_ups(alloc: Global, cpus: u32, ups: &mut List<CpuUp>) -> Result<(), AllocError>
+    requires some { 1 ≤ cpus }
+    requires empty { ups.old.items ≡ [] }
+    requires room { cpus ≤ ups.old.room }
+    ensures count { IfOk result (λ _. length ups.new.items + 1 ≡ cpus) }
+    ensures each { IfOk result (λ _. EachFrom IsUntested 1 ups.new.items) }
+{
+    for cpu in 1..cpus {
+        ups.push(CpuUp {
+            cpu,
+            runs: List::with_room(alloc, 0)?,
+            adjust: 0,
+            outcome: UpOutcome::Untested,
+        });
+    }
+    Ok(())
+}
+
+fn list_cpus(machine: &Machine, mut cpu_of: List<u32>) -> List<u32>
+    requires empty { cpu_of.items ≡ [] }
+    requires room { length (threads_of machine.now) ≤ cpu_of.room }
+    ensures { result.items ≡ map (λ t. t.0) (threads_of machine.now) }
+{
+    for thread in 0..machine.threads() {
+        cpu_of.push(machine.cpu_of(thread));
+    }
+    cpu_of
+}
+
+fn fill_events(
+    alloc: Global,
+    machine: &Machine,
+    events: &mut List<List<Event>>,
+) -> Result<(), AllocError>
+    requires empty { events.old.items ≡ [] }
+    requires room { length (threads_of machine.now) ≤ events.old.room }
+    ensures { IfOk result (λ _. events.new.items ≡ map no_events (threads_of machine.now)) }
+{
+    for thread in 0..machine.threads() {
+        let words = machine.words(thread) as usize;
+        events.push(List::with_room(alloc, EVENTS * words)?);
+    }
+    Ok(())
+}
+
+fn fill_histories(
+    alloc: Global,
+    machine: &Machine,
+    histories: &mut List<List<HistoryStep>>,
+) -> Result<(), AllocError>
+    requires empty { histories.old.items ≡ [] }
+    requires room { cpu_count machine.now ≤ histories.old.room }
+    ensures { IfOk result (λ _. histories.new.items ≡ histories_below machine.now (cpu_count machine.now)) }
+{
+    for word in 0..machine.cpus() {
+        let steps = steps_on(machine, word);
+        histories.push(List::with_room(alloc, steps)?);
+    }
+    Ok(())
+}
+
+/// The most steps that all threads make on a clock word.
+fn steps_on(machine: &Machine, word: u32) -> usize
+    ensures { result ≡ steps_room machine.now word }
+{
+    let mut steps = 0;
+    for thread in 0..machine.threads() {
+        steps += machine.steps(thread, word) as usize;
+    }
+    steps
+}
