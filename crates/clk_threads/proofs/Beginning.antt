@@ -1,13 +1,12 @@
 -- Each thread of a run may begin with what was prepared for it.
-use Rattle.std.proofs.Common.{◌≡◌, ℕ, zero, suc, ◌+◌, ◌^◌, ◌<◌, ◌≤◌, ℤ, pos, Bool, true, false, cond, nat_eq, List, [], ◌∷◌, map, length, get_or, refl, sym, ap, ◌∙◌, subst, arith, eq-eqb}
-use Rattle.std.specs.List.{All, enumerate_from, count_by}
+use Rattle.std.proofs.Common.{◌≡◌, ℕ, zero, suc, ◌+◌, ◌^◌, ◌<◌, ℤ, pos, Bool, true, false, cond, nat_eq, List, [], length, get_or, refl, sym, ap, ◌∙◌, subst, arith, eq-eqb}
 use Rattle.std.proofs.lemmas.Int.{ints}
-use Rattle.std.proofs.lemmas.List.{get_or-map, length-map}
-use Rattle.std.proofs.lemmas.List.Elements.{All-nil, All-cons, All-head, All-tail, All-get_or}
+use Rattle.std.proofs.lemmas.List.{get_or-map}
+use Rattle.std.proofs.lemmas.List.Elements.{All-nil}
 use Rattle.clk_num.specs.Listed.{Listed}
 use Rattle.clk_num.specs.Range.{IsFrom0To}
 use Rattle.clk_ticket.specs.Time.{Time, share_of}
-use Rattle.clk_words.specs.declared.kind.SeatKind.TheVariants.{Owner}
+use Rattle.clk_words.specs.declared.kind.SeatKind.{SeatKind}
 use Rattle.clk_words.specs.declared.opening.Mode.TheVariants.{Stable, PerCpu}
 use Rattle.clk_words.specs.declared.opening.Opening.{Opening}
 use Rattle.clk_words.specs.declared.opening.Start.{Start}
@@ -16,51 +15,75 @@ use Rattle.clk_words.specs.declared.view.View.{View}
 use Rattle.clk_words.specs.Held.{Place, Held}
 use Rattle.clk_words.specs.Histories.{opens_at}
 use Rattle.clk_words.specs.Parts.{part_of, gtod_of, raw_of}
-use Rattle.clk_words.specs.Views.{pairs_known, first_view}
-use Rattle.clk_machine.specs.declared.script.Word.{Word}
-use Rattle.clk_machine.specs.Plan.{Plan, CpuPlan, cpu_count, all_words, thread_at, threads_of}
-use Rattle.clk_machine.specs.Limits.{is_update, IsCpu, IsWithinLimits}
+use Rattle.clk_words.specs.Views.{pairs_known, first_view, given_view}
+use Rattle.clk_machine.specs.Plan.{Plan, cpu_count, thread_at, threads_of}
 use Rattle.clk_machine.specs.Records.{above_base, record_zero}
-use Rattle.clk_latch.specs.Epoch.{Epoch, owner_of}
+use Rattle.clk_latch.specs.Epoch.{Epoch}
 use Rattle.clk_latch.specs.Epoch.{Place as LatchPlace}
 use Rattle.clk_local.specs.Context.{MayStamp}
+use Rattle.clk_adjust.specs.declared.up.CpuUp.{CpuUp}
+use Rattle.clk_trace.specs.RightReadings.{adjust_in}
 use Rattle.clk_trace.specs.declared.event.Event.{Event}
 use Rattle.clk_worker.specs.declared.own.Own.{Own}
+use Rattle.clk_worker.specs.declared.own.Post.{Post}
 use Rattle.clk_worker.specs.Making.{Hand, FitTogether, SeatsServe, MayBegin}
-use Rattle.clk_worker.specs.Running.{IsSound}
+use Rattle.clk_worker.specs.Running.{IsSound, OwnsClock}
 use Rattle.clk_worker.specs.Calling.{site_at, has}
 use Rattle.clk_worker.proofs.RunFirst.{HasGiven, given_none, given_more}
 use Rattle.clk_threads.specs.Booting.{stable_offset_of}
-use Rattle.clk_threads.specs.Preparing.{gave, owner_seat, owner_seats, time_seat, no_events, IsPrepared}
+use Rattle.clk_threads.specs.Preparing.{kind_on, gave, thread_seat, thread_seats, epoch_on, IsOfLatch, IsLatchSeat, time_seat, no_events, IsPrepared}
 use Rattle.clk_threads.specs.Workers.{post_of, fresh_hand, IsOfSeats}
 use Rattle.clk_threads.specs.Ending.{seats_of, shared_of}
 use Rattle.clk_threads.specs.declared.prepared.Prepared.{Prepared}
+use Rattle.clk_threads.proofs.Bringing.{adjust_near, adjust_at}
 use Rattle.clk_threads.proofs.Built.{built_at}
 use Rattle.clk_threads.proofs.Giving.{gave_start}
-use Rattle.clk_threads.proofs.LawfulLists.{scripts_are, threads_count}
+use Rattle.clk_threads.proofs.LawfulLists.{thread_cpu}
+use Rattle.clk_threads.proofs.Numbering.{each_of, own_thread, kind_owner, kind_cpu, kind_reads, updates_left}
 
--- ---- the seat of each owner
+-- ---- the seat of each thread
 
-seat_at : (p : Place) (n k : ℕ) (d : Held) → k < n → get_or (owner_seats p n) k d ≡ owner_seat p k
-seat_at p = built_at (owner_seats p) (owner_seat p) (record { none = refl; more = λ n. refl })
+seat_at : (m : Plan) (p : Place) (n k : ℕ) (d : Held) → k < n → get_or (thread_seats m p n) k d ≡ thread_seat m p k
+seat_at m p = built_at (thread_seats m p) (thread_seat m p) (record { none = refl; more = λ n. refl })
 
 -- ---- what a thread begins with
 
 -- its seats, of which this one is at its latch
 abbrev pub fresh_own : Prepared → Time → LatchPlace → ℕ → Own
-fresh_own p booted latch cpu = record {
-  seat = owner_seat p.opened.words cpu;
-  latch_seat = record latch { epoch = owner_of (record_zero p.machine) 1024 };
-  time = time_seat booted (thread_at p.machine cpu);
+fresh_own p booted latch thread = record {
+  seat = thread_seat p.machine p.opened.words thread;
+  latch_seat = record latch { epoch = epoch_on p.machine (record_zero p.machine) thread };
+  time = time_seat booted (thread_at p.machine thread);
 }
 
-pub record IsFresh (p : Prepared) (booted : Time) (cpu : ℕ) (h : Hand) : Type 0 where
+-- where it stands
+abbrev pub post_at : Prepared → ℕ → Post
+post_at p thread = record {
+  thread = thread;
+  cpu = (thread_at p.machine thread).0;
+  adjust = adjust_in (thread_at p.machine thread).0 p.up.cpus.items;
+  sched_offset = pos 0;
+}
+
+pub record IsFresh (p : Prepared) (booted : Time) (thread : ℕ) (h : Hand) : Type 0 where
   pub latch : LatchPlace
-  pub there : latch.latch ≡ get_or p.latches.epochs.items cpu latch.latch
-  pub hand : h ≡ fresh_hand (post_of (pos 0) cpu) (fresh_own p booted latch cpu) (no_events (thread_at p.machine cpu))
+  pub there : IsOfLatch p.machine p.latches thread latch
+  pub hand : h ≡ fresh_hand (post_at p thread) (fresh_own p booted latch thread) (no_events (thread_at p.machine thread))
 
 pub no_offset : (p : Prepared) → IsPrepared p.machine p → p.machine.stable ≡ false → p.sched_offset ≡ pos 0
 no_offset p h percpu = h.sched_offset ∙ ap (λ (b : Bool). cond b (stable_offset_of p.stamps.items) (pos 0)) percpu
+
+post_is : (p : Prepared) → IsPrepared p.machine p → p.machine.stable ≡ false → (thread : ℕ) → thread < length (threads_of p.machine)
+    → post_of p.machine p.lists.adjusts.items p.sched_offset thread ≡ post_at p thread
+post_is p ip percpu thread low =
+    let cpu : ℕ = (thread_at p.machine thread).0 in
+    let ups : List CpuUp = p.up.cpus.items in
+    let count = ip.up.count in
+    let there = thread_cpu p.machine thread ip.limits low in
+    let adjust : get_or p.lists.adjusts.items cpu (pos 0) ≡ adjust_in cpu ups =
+    ap (λ (xs : List ℤ). get_or xs cpu (pos 0)) ip.lists.adjusts ∙ adjust_at cpu ups (pos 0) (omega (arith, there, count)) ip.up.numbers in
+    ap (λ (x : ℤ). record { thread = thread; cpu = cpu; adjust = x; sched_offset = p.sched_offset }) adjust
+    ∙ ap (λ (x : ℤ). record { thread = thread; cpu = cpu; adjust = adjust_in cpu ups; sched_offset = x }) (no_offset p ip percpu)
 
 own_is : (o : Own) (seat : Held) (latch : LatchPlace) (time : Time) → o.seat ≡ seat → o.latch_seat ≡ latch → o.time ≡ time
     → o ≡ record { seat = seat; latch_seat = latch; time = time }
@@ -69,38 +92,34 @@ own_is o seat latch time a b c =
     ∙ ap (λ (x : LatchPlace). record { seat = seat; latch_seat = x; time = o.time }) b
     ∙ ap (λ (x : Time). record { seat = seat; latch_seat = latch; time = x }) c
 
-pub fresh_worker : (p : Prepared) (ip : IsPrepared p.machine p) → p.machine.stable ≡ false → (cpu : ℕ) (h : Hand) → cpu < cpu_count p.machine
-    → IsOfSeats p.sched_offset (seats_of p) cpu h → IsFresh p ip.booted cpu h
-fresh_worker p ip percpu cpu h low w =
+pub fresh_worker : (p : Prepared) (ip : IsPrepared p.machine p) → p.machine.stable ≡ false → (thread : ℕ) (h : Hand) → thread < length (threads_of p.machine)
+    → IsOfSeats p.machine p.lists.adjusts.items p.sched_offset (seats_of p) thread h → IsFresh p ip.booted thread h
+fresh_worker p ip percpu thread h low w =
     let m : Plan = p.machine in
     let booted : Time = ip.booted in
     let o : Own = w.own in
-    let Name = λ (x : LatchPlace). x.latch in
-    let threads = threads_count m ip.cpus.readers in
-    let thread : cpu < length (threads_of m) = omega (arith, low, threads) in
-    let seats : length p.latches.seats.items ≡ cpu_count m = sym (length-map p.latches.seats.items Name) ∙ ap length ip.latches.latches ∙ ip.latches.count in
-    let seat_there : cpu < length p.latches.seats.items = omega (arith, low, seats) in
-    let seat : o.seat ≡ owner_seat p.opened.words cpu =
-    w.seat ∙ ap (λ (xs : List Held). get_or xs cpu o.seat) ip.opened.owners ∙ seat_at p.opened.words (cpu_count m) cpu o.seat low in
-    let epoch : o.latch_seat.epoch ≡ owner_of (record_zero m) 1024 =
-    ap (λ (x : LatchPlace). x.epoch) w.latch_seat
-    ∙ All-get_or (λ (x : LatchPlace). x.epoch ≡ owner_of (record_zero m) 1024) p.latches.seats.items cpu o.latch_seat seat_there ip.latches.owners in
-    let named : o.latch_seat.latch ≡ get_or p.latches.epochs.items cpu o.latch_seat.latch =
-    ap Name w.latch_seat ∙ sym (get_or-map Name p.latches.seats.items cpu o.latch_seat o.latch_seat.latch seat_there)
-    ∙ ap (λ (xs : _). get_or xs cpu o.latch_seat.latch) ip.latches.latches in
-    let time : o.time ≡ time_seat booted (thread_at m cpu) =
-    w.time ∙ ap (λ (xs : List Time). get_or xs cpu o.time) ip.times ∙ get_or-map (time_seat booted) (threads_of m) cpu (0, []) o.time thread in
-    let list : w.list ≡ no_events (thread_at m cpu) =
-    w.events ∙ ap (λ (xs : List (Listed Event)). get_or xs cpu w.list) ip.lists.events ∙ get_or-map no_events (threads_of m) cpu (0, []) w.list thread in
-    let own = own_is o (owner_seat p.opened.words cpu) (record o.latch_seat { epoch = owner_of (record_zero m) 1024 }) (time_seat booted (thread_at m cpu)) seat
-    (ap (λ (e : Epoch). record o.latch_seat { epoch = e }) epoch) time in
+    let count = ip.latches.count in
+    let there : thread < length p.latches.seats.items = omega (arith, low, count) in
+    let found : LatchPlace = get_or p.latches.seats.items thread o.latch_seat in
+    let is : IsLatchSeat m (record_zero m) p.latches thread found =
+    each_of (IsLatchSeat m (record_zero m) p.latches) p.latches.seats.items thread o.latch_seat there ip.latches.each in
+    let latch : IsLatchSeat m (record_zero m) p.latches thread o.latch_seat =
+    subst (IsLatchSeat m (record_zero m) p.latches thread) (sym w.latch_seat) is in
+    let seat : o.seat ≡ thread_seat m p.opened.words thread =
+    w.seat ∙ ap (λ (xs : List Held). get_or xs thread o.seat) ip.opened.seats ∙ seat_at m p.opened.words (length (threads_of m)) thread o.seat low in
+    let time : o.time ≡ time_seat booted (thread_at m thread) =
+    w.time ∙ ap (λ (xs : List Time). get_or xs thread o.time) ip.times ∙ get_or-map (time_seat booted) (threads_of m) thread (0, []) o.time low in
+    let list : w.list ≡ no_events (thread_at m thread) =
+    w.events ∙ ap (λ (xs : List (Listed Event)). get_or xs thread w.list) ip.lists.events ∙ get_or-map no_events (threads_of m) thread (0, []) w.list low in
+    let own = own_is o (thread_seat m p.opened.words thread) (record o.latch_seat { epoch = epoch_on m (record_zero m) thread }) (time_seat booted (thread_at m thread)) seat
+    (ap (λ (e : Epoch). record o.latch_seat { epoch = e }) latch.1) time in
     record {
       latch = o.latch_seat;
-      there = named;
+      there = latch.0;
       hand =
-          w.hand ∙ ap (λ (x : ℤ). fresh_hand (post_of x cpu) o w.list) (no_offset p ip percpu)
-          ∙ ap (λ (x : Own). fresh_hand (post_of (pos 0) cpu) x w.list) own
-          ∙ ap (λ (l : Listed Event). fresh_hand (post_of (pos 0) cpu) (fresh_own p booted o.latch_seat cpu) l) list;
+          w.hand ∙ ap (λ (x : Post). fresh_hand x o w.list) (post_is p ip percpu thread low)
+          ∙ ap (λ (x : Own). fresh_hand (post_at p thread) x w.list) own
+          ∙ ap (λ (l : Listed Event). fresh_hand (post_at p thread) (fresh_own p booted o.latch_seat thread) l) list;
     }
 
 -- ---- it may begin
@@ -111,17 +130,18 @@ fit p ip percpu =
     record {
       limits = ip.limits;
       cpus = ap (λ (s : Start). s.cpus) start;
-      latches = ip.latches.count;
+      latches = ip.latches.latches;
       tick = ap (λ (s : Start). s.tick) start;
       opening = subst (λ (s : Start). IsFrom0To (2 ^ 57) (above_base p.machine (opens_at s))) (sym start) ip.stamps.near;
       percpu = ap (λ (s : Start). s.opening.mode) start ∙ ap (λ (b : Bool). cond b Stable PerCpu) percpu;
     }
 
-pub given_all : (start : Start) → start.opening.mode ≡ PerCpu → (n : ℕ) → HasGiven start n (gave n (first_view start))
-given_all start percpu zero = given_none start percpu
-given_all start percpu (suc n) =
+pub given_all : (m : Plan) (start : Start) → start.opening.mode ≡ PerCpu → (n : ℕ) → HasGiven start n (gave m n (first_view start))
+given_all m start percpu zero = given_none start percpu
+given_all m start percpu (suc n) =
     let on : n + 1 ≡ suc n = omega arith in
-    subst (λ (k : ℕ). HasGiven start k (gave (suc n) (first_view start))) on (given_more start n (gave n (first_view start)) (Owner n) (given_all start percpu n))
+    subst (λ (k : ℕ). HasGiven start k (gave m (suc n) (first_view start))) on
+    (given_more start n (gave m n (first_view start)) (kind_on m n) (given_all m start percpu n))
 
 none_after : (n r : ℕ) (o : Opening) → (part_of (pairs_known n o) r).after ≡ []
 none_after zero r o = refl
@@ -129,68 +149,59 @@ none_after (suc n) zero o = refl
 none_after (suc n) (suc zero) o = refl
 none_after (suc n) (suc (suc r)) o = none_after n r o
 
-may_stamp : (p : Prepared) → (cpu : ℕ) → p.opened.words.start.opening.mode ≡ PerCpu → MayStamp (owner_seat p.opened.words cpu).view
-may_stamp p cpu percpu =
+may_stamp : (p : Prepared) (thread : ℕ) → thread < cpu_count p.machine → p.opened.words.start.opening.mode ≡ PerCpu
+    → MayStamp (thread_seat p.machine p.opened.words thread).view
+may_stamp p thread low percpu =
     let start = p.opened.words.start in
-    let v : View = (owner_seat p.opened.words cpu).view in
-    let parts = (given_all start percpu cpu).parts in
-    let none : (r : ℕ) → length (part_of v.pairs.parts r).after ≡ 0 = λ r.
+    let before : View = gave p.machine thread (first_view start) in
+    let parts = (given_all p.machine start percpu thread).parts in
+    let none : (r : ℕ) → length (part_of before.pairs.parts r).after ≡ 0 = λ r.
     ap (λ (ps : List Part). length (part_of ps r).after) parts ∙ ap length (none_after start.cpus r start.opening) in
-    let same : nat_eq cpu cpu ≡ true = eq-eqb cpu cpu refl in
-    record { owner = rw same refl; whole = none (gtod_of cpu) ∙ sym (none (raw_of cpu)) }
+    let same : nat_eq thread thread ≡ true = eq-eqb thread thread refl in
+    subst (λ (k : SeatKind). MayStamp (given_view k before)) (sym (kind_owner p.machine thread low))
+    (record { owner = rw same refl; whole = none (gtod_of thread) ∙ sym (none (raw_of thread)) })
 
-sound : (p : Prepared) (booted : Time) (latch : LatchPlace) (cpu : ℕ)
-    → IsSound (site_at (shared_of p) (post_of (pos 0) cpu) 0) (share_of (fresh_own p booted latch cpu).time) (has (fresh_own p booted latch cpu))
-sound p booted latch cpu =
+owns_clock : (p : Prepared) (booted : Time) (latch : LatchPlace) (thread : ℕ) → thread < cpu_count p.machine → p.opened.words.start.opening.mode ≡ PerCpu
+    → OwnsClock (site_at (shared_of p) (post_at p thread) 0) (has (fresh_own p booted latch thread))
+owns_clock p booted latch thread low percpu =
     record {
-      owner = refl;
+      may_stamp = may_stamp p thread low percpu;
+      owner = own_thread p.machine thread low;
       records = record { updates = []; all = refl; next = tt };
       drawn = All-nil _;
-      share_is = refl;
-      rises = tt;
     }
 
-serve : (p : Prepared) (ip : IsPrepared p.machine p) → p.machine.stable ≡ false → (latch : LatchPlace) (cpu : ℕ) → cpu < cpu_count p.machine
-    → latch.latch ≡ get_or p.latches.epochs.items cpu latch.latch
-    → SeatsServe (shared_of p) (post_of (pos 0) cpu) (share_of (fresh_own p ip.booted latch cpu).time) (fresh_own p ip.booted latch cpu)
-serve p ip percpu latch cpu low there =
+sound : (p : Prepared) (booted : Time) (latch : LatchPlace) (thread : ℕ)
+    → IsSound (site_at (shared_of p) (post_at p thread) 0) (share_of (fresh_own p booted latch thread).time) (has (fresh_own p booted latch thread))
+sound p booted latch thread = record { base = record { zero = λ d. refl }; share_is = refl; rises = tt }
+
+serve : (p : Prepared) (ip : IsPrepared p.machine p) → p.machine.stable ≡ false → (latch : LatchPlace) (thread : ℕ) → thread < length (threads_of p.machine)
+    → IsOfLatch p.machine p.latches thread latch
+    → SeatsServe (shared_of p) (post_at p thread) (share_of (fresh_own p ip.booted latch thread).time) (fresh_own p ip.booted latch thread)
+serve p ip percpu latch thread low there =
     let together = fit p ip percpu in
     record {
       shared = together;
-      own_thread = refl;
-      cpu = low;
-      near = (omega (arith, ints), omega (arith, ints));
+      thread = low;
+      stands = refl;
+      cpu = thread_cpu p.machine thread ip.limits low;
+      near = adjust_near p.machine p.up p.tickets p.stamps.items ip.booted (thread_at p.machine thread).0 ip.limits ip.up ip.drawn;
       offset = (omega (arith, ints), omega (arith, ints));
-      of_words = ap (λ (s : Start). record { table = p.opened.words.table; start = s }) (gave_start cpu (first_view p.opened.words.start));
+      of_words = ap (λ (s : Start). record { table = p.opened.words.table; start = s }) (gave_start p.machine thread (first_view p.opened.words.start));
       of_latch = there;
       of_tickets = ip.drawn.table;
-      reading = tt;
-      cpu_is = refl;
-      may_stamp = may_stamp p cpu together.percpu;
-      sound = sound p ip.booted latch cpu;
+      reading = kind_reads p.machine thread;
+      cpu_is = sym (kind_cpu p.machine thread);
+      sound = sound p ip.booted latch thread;
+      owner = λ own. owns_clock p ip.booted latch thread own together.percpu;
     }
 
--- no script has more updates than a latch's owner
-few_each : (c n : ℕ) (cs : List CpuPlan) → All (IsCpu c) cs
-    → All (λ (t : ℕ × List Word). count_by is_update t.1 ≤ 1024) (map (λ (x : ℕ × CpuPlan). (x.0, all_words x.1.script)) (enumerate_from n cs))
-few_each c n [] all = All-nil (λ (t : ℕ × List Word). count_by is_update t.1 ≤ 1024)
-few_each c n (x ∷ cs) all =
-    All-cons (λ (t : ℕ × List Word). count_by is_update t.1 ≤ 1024) (n, all_words x.script)
-    (map (λ (y : ℕ × CpuPlan). (y.0, all_words y.1.script)) (enumerate_from (n + 1) cs))
-    (All-head (IsCpu c) x cs all).script.updates (few_each c (n + 1) cs (All-tail (IsCpu c) x cs all))
-
-few_updates : (m : Plan) → IsWithinLimits m → m.reader ≡ [] → (cpu : ℕ) → cpu < cpu_count m → count_by is_update (thread_at m cpu).1 ≤ 1024
-few_updates m limits none cpu low =
-    let P : ℕ × List Word → Type 0 = λ t. count_by is_update t.1 ≤ 1024 in
-    let threads = threads_count m none in
-    All-get_or P (threads_of m) cpu (0, []) (omega (arith, low, threads)) (subst (All P) (sym (scripts_are m none)) (few_each (cpu_count m) 0 m.cpu limits.ranges.cpu))
-
-pub may_begin : (p : Prepared) (ip : IsPrepared p.machine p) → p.machine.stable ≡ false → (latch : LatchPlace) (cpu : ℕ) → cpu < cpu_count p.machine
-    → latch.latch ≡ get_or p.latches.epochs.items cpu latch.latch
-    → MayBegin (shared_of p) (post_of (pos 0) cpu) (fresh_own p ip.booted latch cpu) (no_events (thread_at p.machine cpu))
-may_begin p ip percpu latch cpu low there =
+pub may_begin : (p : Prepared) (ip : IsPrepared p.machine p) → p.machine.stable ≡ false → (latch : LatchPlace) (thread : ℕ) → thread < length (threads_of p.machine)
+    → IsOfLatch p.machine p.latches thread latch
+    → MayBegin (shared_of p) (post_at p thread) (fresh_own p ip.booted latch thread) (no_events (thread_at p.machine thread))
+may_begin p ip percpu latch thread low there =
     record {
-      serves = serve p ip percpu latch cpu low there;
-      enough = record { tickets = omega arith; updates = few_updates p.machine ip.limits ip.cpus.readers cpu low; room = omega arith };
+      serves = serve p ip percpu latch thread low there;
+      enough = record { tickets = omega arith; updates = updates_left p.machine thread ip.limits low; room = omega arith };
       empty = refl;
     }

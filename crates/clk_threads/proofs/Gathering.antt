@@ -1,5 +1,5 @@
 -- The seats of workers are joined with two, one after another.
-use Rattle.std.proofs.Common.{◌≡◌, ℕ, ◌+◌, nat_eq, false, ◌<◌, List, [], ◌∷◌, ◌++◌, map, Option, Some, append_assoc, sym, ap, ◌∙◌, subst, refl, arith}
+use Rattle.std.proofs.Common.{◌≡◌, ℕ, zero, suc, ◌+◌, ◌/◌, nat_eq, Bool, true, false, ◌||◌, ◌<◌, List, [], ◌∷◌, ◌++◌, map, length, get_or, Option, Some, append_assoc, append-nil, sym, ap, ◌∙◌, subst, refl, arith}
 use Rattle.std.specs.List.{All, flat_map, sum_by}
 use Rattle.std.proofs.lemmas.Bool.Decides.{nat_tests}
 use Rattle.std.proofs.lemmas.Grind.{flat_map-append}
@@ -7,25 +7,85 @@ use Rattle.std.proofs.lemmas.List.{map-append, flat_map_more}
 use Rattle.std.proofs.lemmas.List.Elements.{All-nil, All-cons, All-append, All-weaker}
 use Rattle.std.proofs.lemmas.List.Sums.{sum_by_push}
 use Rattle.clk_num.specs.Listed.{Listed}
-use Rattle.clk_ticket.specs.Time.{Tickets, Time, share_of, both_of}
+use Rattle.clk_ticket.specs.Time.{Time, share_of, both_of}
+use Rattle.clk_words.specs.declared.view.Part.{Part}
 use Rattle.clk_words.specs.declared.view.View.{View}
 use Rattle.clk_words.specs.Calls.{Joins}
 use Rattle.clk_words.specs.Fronts.{Begins}
-use Rattle.clk_words.specs.Held.{Place, Held, place_of}
-use Rattle.clk_words.specs.Views.{own_lists, joint_made}
+use Rattle.clk_words.specs.Held.{Held, place_of}
+use Rattle.clk_words.specs.Parts.{part_of, kept_after}
+use Rattle.clk_words.specs.Rights.{has_number}
+use Rattle.clk_words.specs.Views.{own_lists, joint_made, together}
+use Rattle.clk_words.proofs.Fronts.{begins_through}
+use Rattle.clk_words.proofs.Registers.{joint_at, part_through}
+use Rattle.clk_latch.specs.Epoch.{Place as LatchPlace}
 use Rattle.clk_trace.specs.declared.event.Event.{Event}
 use Rattle.clk_worker.specs.declared.own.Own.{Own}
+use Rattle.clk_worker.specs.declared.shared.Shared.{Shared}
 use Rattle.clk_worker.specs.Making.{Hand}
-use Rattle.clk_threads.specs.Ending.{own_list, owns_of, HasGathered}
+use Rattle.clk_threads.specs.Ending.{own_list, owns_of, all_together, StampsBegin, HasGathered}
 
--- ---- one worker more
+-- ---- many views as one
+
+pub together_more : (v : View) (ws : List View) (w : View) → all_together v (ws ++ w ∷ []) ≡ together (all_together v ws) w
+together_more v [] w = refl
+together_more v (u ∷ ws) w = together_more (together v u) ws w
+
+-- the own lists stand one after another
+pub together_lists : (v : View) (ws : List View) → own_lists (all_together v ws) ≡ own_lists v ++ flat_map own_lists ws
+together_lists v [] = sym (append-nil (own_lists v))
+together_lists v (w ∷ ws) = together_lists (together v w) ws ∙ append_assoc (own_lists v) (own_lists w) (flat_map own_lists ws)
 
 joint_left : (m n : ℕ) → 0 < m → joint_made m n ≡ m
 joint_left m n there = let some : nat_eq m 0 ≡ false = grind (arith, nat_tests) in rw some refl
 
-begins_through : {A : Type 0} (xs ys zs : List A) → Begins xs ys → Begins ys zs → Begins xs zs
-begins_through {A} xs ys zs p q =
-    record { rest = p.rest ++ q.rest; is = q.is ∙ ap (λ (ws : List A). ws ++ q.rest) p.is ∙ append_assoc xs p.rest q.rest }
+-- the first one's right to split stays
+pub together_made : (v : View) (ws : List View) → 0 < v.made → (all_together v ws).made ≡ v.made
+together_made v [] there = refl
+together_made v (w ∷ ws) there =
+    let same = joint_left v.made w.made there in
+    together_made (together v w) ws (omega (arith, same, there)) ∙ same
+
+-- what is known of a register, of which one owns the CPU: that one's list is kept
+or_together : (a b c : Bool) → (a || (b || c)) ≡ ((a || b) || c)
+or_together true b c = refl
+or_together false b c = refl
+
+has_both : (xs ys : List ℕ) (n : ℕ) → has_number (xs ++ ys) n ≡ (has_number xs n || has_number ys n)
+has_both [] ys n = refl
+has_both (x ∷ xs) ys n =
+    ap (λ (t : Bool). nat_eq x n || t) (has_both xs ys n) ∙ or_together (nat_eq x n) (has_number xs n) (has_number ys n)
+
+joint_after : (v w : View) (r : ℕ) (a b : Bool) → has_number v.pairs.owns (r / 2) ≡ a → has_number w.pairs.owns (r / 2) ≡ b
+    → (part_of (together v w).pairs.parts r).after ≡ kept_after a b (part_of v.pairs.parts r).after (part_of w.pairs.parts r).after
+joint_after v w r a b first second =
+    ap (λ (p : Part). p.after) (joint_at (has_number v.pairs.owns) (has_number w.pairs.owns) v.pairs.parts w.pairs.parts r)
+    ∙ ap (λ (t : Bool). kept_after t (has_number w.pairs.owns (r / 2)) (part_of v.pairs.parts r).after (part_of w.pairs.parts r).after) first
+    ∙ ap (λ (t : Bool). kept_after a t (part_of v.pairs.parts r).after (part_of w.pairs.parts r).after) second
+
+joint_owns : (v w : View) (n : ℕ) (a b : Bool) → has_number v.pairs.owns n ≡ a → has_number w.pairs.owns n ≡ b → has_number (together v w).pairs.owns n ≡ (a || b)
+joint_owns v w n a b first second =
+    has_both v.pairs.owns w.pairs.owns n ∙ ap (λ (t : Bool). t || has_number w.pairs.owns n) first ∙ ap (λ (t : Bool). a || t) second
+
+after_kept : (v : View) (ws : List View) (r : ℕ) → has_number v.pairs.owns (r / 2) ≡ true
+    → (part_of (all_together v ws).pairs.parts r).after ≡ (part_of v.pairs.parts r).after
+after_kept v [] r own = refl
+after_kept v (w ∷ ws) r own =
+    after_kept (together v w) ws r (joint_owns v w (r / 2) true (has_number w.pairs.owns (r / 2)) own refl)
+    ∙ joint_after v w r true (has_number w.pairs.owns (r / 2)) own refl
+
+pub after_taken : (v : View) (ws : List View) (r k : ℕ) (d : View) → k < length ws → has_number v.pairs.owns (r / 2) ≡ false
+    → ((j : ℕ) → j < k → has_number (get_or ws j d).pairs.owns (r / 2) ≡ false) → has_number (get_or ws k d).pairs.owns (r / 2) ≡ true
+    → (part_of (all_together v ws).pairs.parts r).after ≡ (part_of (get_or ws k d).pairs.parts r).after
+after_taken v [] r k d low none others own = absurd (omega (arith, low))
+after_taken v (w ∷ ws) r zero d low none others own =
+    after_kept (together v w) ws r (joint_owns v w (r / 2) false true none own) ∙ joint_after v w r false true none own
+after_taken v (w ∷ ws) r (suc k) d low none others own =
+    after_taken (together v w) ws r k d (omega (arith, low)) (joint_owns v w (r / 2) false false none (others zero (omega arith)))
+    (λ j lower. others (suc j) (omega (arith, lower)))
+    own
+
+-- ---- one worker more
 
 owns_more : (hands : List Hand) (h : Hand) (o : Own) → h.own ≡ Some o → owns_of (hands ++ h ∷ []) ≡ owns_of hands ++ o ∷ []
 owns_more hands h o is =
@@ -38,39 +98,52 @@ flat_next {A} f before now hands h o is e =
     ap (λ (xs : List A). xs ++ f o) e ∙ flat_map_more f before (owns_of hands) o
     ∙ ap (λ (os : List Own). before ++ flat_map f os) (sym (owns_more hands h o is))
 
-pub record JoinsOne (words : Place) (h : Hand) (o : Own) (whole : Held) (drawn : Time) (kept : Listed (Listed Event))
-    (whole2 : Held) (drawn2 : Time) (kept2 : Listed (Listed Event)) : Type 0 where
+map_owns : {A : Type 0} (f : Own → A) (hands : List Hand) (h : Hand) (o : Own) → h.own ≡ Some o → map f (owns_of hands) ++ f o ∷ [] ≡ map f (owns_of (hands ++ h ∷ []))
+map_owns f hands h o is = sym (ap (map f) (owns_more hands h o is) ∙ map-append f (owns_of hands) (o ∷ []))
+
+pub record JoinsOne (s : Shared) (h : Hand) (o : Own) (whole : Held) (drawn : Time) (kept : Listed (Listed Event)) (seats : Listed LatchPlace)
+    (whole2 : Held) (drawn2 : Time) (kept2 : Listed (Listed Event)) (seats2 : Listed LatchPlace) : Type 0 where
   pub own : h.own ≡ Some o
-  pub place : place_of whole2 ≡ words
+  pub place : place_of whole2 ≡ s.words
   pub joins : Joins whole.view o.seat.view whole2.view
   pub time : drawn2 ≡ both_of drawn o.time
   pub share : share_of drawn2 ≡ share_of drawn + share_of o.time
   pub events : kept2.items ≡ kept.items ++ h.events ∷ []
+  pub latch : seats2.items ≡ seats.items ++ o.latch_seat ∷ []
 
-pub gathered_more : (words : Place) (tickets : Tickets) (hands : List Hand) (first : Held) (time : Time) (threads : Listed (Listed Event))
-    → (whole : Held) (drawn : Time) (kept : Listed (Listed Event)) → HasGathered words tickets hands first time threads whole drawn kept
-    → (h : Hand) (o : Own) (whole2 : Held) (drawn2 : Time) (kept2 : Listed (Listed Event)) → JoinsOne words h o whole drawn kept whole2 drawn2 kept2
-    → HasGathered words tickets (hands ++ h ∷ []) first time threads whole2 drawn2 kept2
-gathered_more words tickets hands first time threads whole drawn kept g h o whole2 drawn2 kept2 j =
+pub gathered_more : (s : Shared) (hands : List Hand) (first : Held) (time : Time) (threads : Listed (Listed Event)) (latches : Listed LatchPlace)
+    → (whole : Held) (drawn : Time) (kept : Listed (Listed Event)) (seats : Listed LatchPlace)
+    → HasGathered s hands first time threads latches whole drawn kept seats
+    → (h : Hand) (o : Own) (whole2 : Held) (drawn2 : Time) (kept2 : Listed (Listed Event)) (seats2 : Listed LatchPlace)
+    → JoinsOne s h o whole drawn kept seats whole2 drawn2 kept2 seats2
+    → HasGathered s (hands ++ h ∷ []) first time threads latches whole2 drawn2 kept2 seats2
+gathered_more s hands first time threads latches whole drawn kept seats g h o whole2 drawn2 kept2 seats2 j =
+    let Seen_as : Own → View = λ x. x.seat.view in
     let Seen : Own → Type 0 = λ x. Begins x.seat.view.seen whole2.view.seen in
     let Before : Own → Type 0 = λ x. Begins x.seat.view.seen whole.view.seen in
+    let Stamps : Own → Type 0 = λ x. StampsBegin x.seat.view whole2.view in
+    let Stamped : Own → Type 0 = λ x. StampsBegin x.seat.view whole.view in
+    let Latch : Own → LatchPlace = λ x. x.latch_seat in
     let share = j.share in
     let so_far = g.share in
     let more = ap (λ (os : List Own). sum_by (λ (x : Own). share_of x.time) os) (owns_more hands h o j.own) ∙ sum_by_push (λ (x : Own). share_of x.time) (owns_of hands) o in
     record {
       whole_own = j.place;
-      lists =
-          ap own_lists j.joins.view_is
-          ∙ flat_next (λ (x : Own). own_lists x.seat.view) (own_lists first.view) (own_lists whole.view) hands h o j.own g.lists;
-      made = λ there.
-          let same = g.made there in
-          let low : 0 < whole.view.made = omega (arith, same, there) in
-          ap (λ (v : View). v.made) j.joins.view_is ∙ joint_left whole.view.made o.seat.view.made low ∙ same;
+      view_is =
+          j.joins.view_is ∙ ap (λ v. together v o.seat.view) g.view_is ∙ sym (together_more first.view (map Seen_as (owns_of hands)) o.seat.view)
+          ∙ ap (all_together first.view) (map_owns Seen_as hands h o j.own);
       seen =
           subst (All Seen) (sym (owns_more hands h o j.own))
           (All-append Seen (owns_of hands) (o ∷ [])
           (All-weaker Before Seen (λ x b. begins_through x.seat.view.seen whole.view.seen whole2.view.seen b j.joins.first) (owns_of hands) g.seen)
           (All-cons Seen o [] j.joins.second (All-nil Seen)));
+      stamps =
+          subst (All Stamps) (sym (owns_more hands h o j.own))
+          (All-append Stamps (owns_of hands) (o ∷ [])
+          (All-weaker Stamped Stamps
+          (λ x b r. part_through (part_of x.seat.view.pairs.parts r) (part_of whole.view.pairs.parts r) (part_of whole2.view.pairs.parts r) (b r) (j.joins.first_parts r))
+          (owns_of hands) g.stamps)
+          (All-cons Stamps o [] j.joins.second_parts (All-nil Stamps)));
       drawn_own = ap (λ (t : Time). t.table) j.time ∙ g.drawn_own;
       blocks = ap (λ (t : Time). t.blocks) j.time ∙ flat_next (λ (x : Own). x.time.blocks) time.blocks drawn.blocks hands h o j.own g.blocks;
       share = omega (arith, share, so_far, more);
@@ -78,4 +151,8 @@ gathered_more words tickets hands first time threads whole drawn kept g h o whol
           j.events ∙ ap (λ (xs : List (Listed Event)). xs ++ h.events ∷ []) g.events
           ∙ append_assoc threads.items (map (λ (x : Hand). x.events) hands) (h.events ∷ [])
           ∙ ap (λ (xs : List (Listed Event)). threads.items ++ xs) (sym (map-append (λ (x : Hand). x.events) hands (h ∷ [])));
+      seats_are =
+          j.latch ∙ ap (λ (xs : List LatchPlace). xs ++ o.latch_seat ∷ []) g.seats_are
+          ∙ append_assoc latches.items (map Latch (owns_of hands)) (o.latch_seat ∷ [])
+          ∙ ap (λ (xs : List LatchPlace). latches.items ++ xs) (map_owns Latch hands h o j.own);
     }

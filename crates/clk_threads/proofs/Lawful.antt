@@ -1,7 +1,6 @@
 -- The trace of a run of several threads is lawful.
-use Rattle.std.proofs.Common.{◌≡◌, ℕ, ◌+◌, ◌<◌, ◌+ℤ◌, not, nat_eq, false, List, [], ◌∷◌, ◌++◌, map, length, ap, ◌∙◌, sym, subst, refl, arith}
-use Rattle.std.proofs.lemmas.List.{take_all, drop_all}
-use Rattle.std.proofs.lemmas.List.Elements.{All-nil}
+use Rattle.std.proofs.Common.{◌≡◌, ℕ, ◌+◌, ◌<◌, ◌+ℤ◌, not, nat_eq, false, List, [], ◌∷◌, ◌++◌, map, take, ap, ◌∙◌, sym, subst, refl, arith}
+use Rattle.std.proofs.lemmas.List.Elements.{All-drop}
 use Rattle.std.specs.List.{All, AllZip, sum_by}
 use Rattle.clk_base.specs.declared.block.Block.{Block}
 use Rattle.clk_base.specs.Blocks.{Covers, Rises, top_of}
@@ -25,8 +24,8 @@ use Rattle.clk_trace.specs.ScriptEvents.{AreEventsOf}
 use Rattle.clk_trace.specs.SeenBefore.{base_of, NeverFalls}
 use Rattle.clk_trace.specs.SortedHistory.{change_of as change_in}
 use Rattle.clk_trace.specs.Stamps.{no_pair, last_pair, stamp_zero, stamps_of, NamesPair, pair_after, first_numbers, NamesStamps, numbers_after}
-use Rattle.clk_trace.specs.Threads.{owners, readers, reader_cpus}
-use Rattle.clk_trace.specs.TicketOrder.{boot_blocks, thread_blocks, IsTicketOrder}
+use Rattle.clk_trace.specs.Threads.{owners}
+use Rattle.clk_trace.specs.TicketOrder.{boot_blocks, up_blocks, thread_blocks, IsTicketOrder}
 use Rattle.clk_trace.specs.Updates.{records_of, OwnsRecords, record_after, NamesLater, named_after}
 use Rattle.clk_trace.specs.WordHistory.{Placed, steps_from, all_steps as trace_steps, steps_of, steps_on as placed_on, line_of, IsHistoryOf}
 use Rattle.clk_trace.specs.declared.event.Event.{Event}
@@ -40,43 +39,32 @@ use Rattle.clk_worker.proofs.RunOrders.{Ordered}
 use Rattle.clk_worker.proofs.RunSteps.{numbered}
 use Rattle.clk_threads.specs.Preparing.{start_of}
 use Rattle.clk_threads.specs.Finishing.{Ran, events_of, IsRunOf, change_of, ShowsHistory}
-use Rattle.clk_threads.proofs.LawfulLists.{each_all, each_map, each_zip, each_both, none_zip, threads_count, threads_numbers, threads_at, cpus_numbers, cpus_count, placed_from, placed_are, placed_all, placed_mine}
+use Rattle.clk_threads.proofs.LawfulLists.{each_all, each_map, each_zip, each_first, all_each, zip_rest, cpu_at, threads_at, cpus_at, cpus_count, placed_from, placed_are, placed_all, placed_mine}
 use Rattle.clk_threads.proofs.LawfulTickets.{rise_all, blocks_all}
-use Rattle.clk_threads.proofs.LawfulThreads.{IsThread, all_threads, thread_right, thread_owned, thread_names, thread_below, thread_never_falls}
+use Rattle.clk_threads.proofs.LawfulThreads.{first_blocks, IsThread, all_threads, thread_right, owner_records, owner_names, thread_stamps, thread_below, thread_never_falls}
 
 -- ---- what holds of each thread, in the forms of the trace
 
 each_thread : (m : Plan) (t : Trace) (closed : List Step) (run : IsRunOf m t closed) (Q : Listed Event → Type 0)
-    → ((cpu : ℕ) (r : Ran) → IsThread m t closed cpu r → Q r.events) → All Q t.threads.items
+    → ((thread : ℕ) (r : Ran) → IsThread m t closed thread r → Q r.events) → All Q t.threads.items
 each_thread m t closed run Q f = subst (All Q) (sym run.threads) (each_all (IsThread m t closed) Q f 0 run.rans (all_threads m t closed run))
 
-zip_cpus : (m : Plan) (t : Trace) (closed : List Step) (run : IsRunOf m t closed) (Q : ℕ → Listed Event → Type 0)
-    → ((cpu : ℕ) (r : Ran) → IsThread m t closed cpu r → Q cpu r.events) → AllZip Q t.cpu_of.items t.threads.items
-zip_cpus m t closed run Q f =
+zip_threads : (m : Plan) (t : Trace) (closed : List Step) (run : IsRunOf m t closed) (Q : ℕ → Listed Event → Type 0)
+    → ((thread : ℕ) (r : Ran) → IsThread m t closed thread r → Q (cpu_at m thread) r.events) → AllZip Q t.cpu_of.items t.threads.items
+zip_threads m t closed run Q f =
     let cpus : List ℕ = map (λ s. s.0) (threads_of m) in
-    let count : length run.rans ≡ length cpus = run.count ∙ sym (cpus_count m run.cpus_alone) in
     let all : AllZip Q cpus (events_of run.rans) =
-    each_zip (λ k x. x ≡ k) (IsThread m t closed) Q (λ k x r same h. subst (λ j. Q j r.events) (sym same) (f k r h)) 0 cpus run.rans count
-    (cpus_numbers m run.cpus_alone) (all_threads m t closed run) in
+    each_zip (λ k x. x ≡ cpu_at m k) (IsThread m t closed) Q (λ k x r same h. subst (λ j. Q j r.events) (sym same) (f k r h)) 0 cpus run.rans
+    (run.count ∙ sym (cpus_count m)) (cpus_at m) (all_threads m t closed run) in
     subst (λ cs. AllZip Q cs t.threads.items) (sym run.cpu_of) (subst (AllZip Q cpus) (sym run.threads) all)
 
-threads_long : (m : Plan) (t : Trace) (closed : List Step) → IsRunOf m t closed → length t.threads.items ≡ cpu_count m
-threads_long m t closed run = ap length run.threads ∙ events_long run.rans ∙ run.count
-  where
-    events_long : (rans : List Ran) → length (events_of rans) ≡ length rans
-    events_long [] = refl
-    events_long (r ∷ rans) = let e = events_long rans in omega (arith, e)
-
--- all threads are owners
-owners_are : (m : Plan) (t : Trace) (closed : List Step) → IsRunOf m t closed → owners m t ≡ t.threads.items
-owners_are m t closed run = let e = threads_long m t closed run in take_all (cpu_count m) t.threads.items (omega (arith, e))
-
-no_readers : (m : Plan) (t : Trace) (closed : List Step) → IsRunOf m t closed → readers m t ≡ []
-no_readers m t closed run = let e = threads_long m t closed run in drop_all (cpu_count m) t.threads.items (omega (arith, e))
-
-no_reader_cpus : (m : Plan) (t : Trace) (closed : List Step) → IsRunOf m t closed → reader_cpus m t ≡ []
-no_reader_cpus m t closed run =
-    let e = ap length run.cpu_of ∙ cpus_count m run.cpus_alone in drop_all (cpu_count m) t.cpu_of.items (omega (arith, e))
+-- the first of them are the CPUs' own
+each_owner : (m : Plan) (t : Trace) (closed : List Step) (run : IsRunOf m t closed) (Q : ℕ → Listed Event → Type 0)
+    → ((cpu : ℕ) (r : Ran) → IsThread m t closed cpu r → cpu < cpu_count m → Q cpu r.events) → EachFrom Q 0 (owners m t)
+each_owner m t closed run Q f =
+    subst (λ (ts : List (Listed Event)). EachFrom Q 0 (take (cpu_count m) ts)) (sym run.threads)
+    (each_first Q (cpu_count m) 0 (cpu_count m) (events_of run.rans) (omega arith)
+    (each_map (IsThread m t closed) (λ k es. k < cpu_count m → Q k es) f 0 run.rans (all_threads m t closed run)))
 
 -- ---- the opening, the scripts and the modes
 
@@ -92,26 +80,22 @@ opening m t closed run =
       start_word = run.start_word ∙ ap (λ o. wrap ((last_pair no_pair t.boots.items).gtod +ℤ o)) (sym run.gtod_offset);
     }
 
-abbrev IsAt : Plan → ℕ → ℕ × List Word → Type 0
-IsAt m k s = (s.0 ≡ k) × (thread_at m k ≡ s)
-
-script_events : (m : Plan) (t : Trace) (closed : List Step) (cpu : ℕ) (s : ℕ × List Word) (r : Ran) → IsAt m cpu s → IsThread m t closed cpu r → AreEventsOf s.0 0 s.1 r.events.items
-script_events m t closed cpu s r at h =
-    subst (λ k. AreEventsOf k 0 s.1 r.events.items) (sym at.0) (subst (λ (x : ℕ × List Word). AreEventsOf cpu 0 x.1 r.events.items) at.1 h.script)
+script_events : (m : Plan) (t : Trace) (closed : List Step) (thread : ℕ) (s : ℕ × List Word) (r : Ran) → thread_at m thread ≡ s → IsThread m t closed thread r
+    → AreEventsOf s.0 0 s.1 r.events.items
+script_events m t closed thread s r at h = subst (λ (x : ℕ × List Word). AreEventsOf x.0 0 x.1 r.events.items) at h.script
 
 scripts : (m : Plan) (t : Trace) (closed : List Step) → IsRunOf m t closed → FollowsScripts m t
 scripts m t closed run =
     let Q : ℕ × List Word → Listed Event → Type 0 = λ s es. AreEventsOf s.0 0 s.1 es.items in
-    let count : length run.rans ≡ length (threads_of m) = run.count ∙ sym (threads_count m run.cpus_alone) in
-    let at = each_both (λ k s. s.0 ≡ k) (λ k s. thread_at m k ≡ s) 0 (threads_of m) (threads_numbers m run.cpus_alone) (threads_at m) in
     record {
       cpus = run.cpu_of;
       events =
           subst (AllZip Q (threads_of m)) (sym run.threads)
-          (each_zip (IsAt m) (IsThread m t closed) Q (script_events m t closed) 0 (threads_of m) run.rans count at (all_threads m t closed run));
+          (each_zip (λ k s. thread_at m k ≡ s) (IsThread m t closed) Q (script_events m t closed) 0 (threads_of m) run.rans run.count (threads_at m)
+          (all_threads m t closed run));
       couples =
-          zip_cpus m t closed run (λ cpu es. All (λ e. CouplesLower cpu e.kind) es.items)
-          (λ cpu r h. h.shows.lower);
+          zip_threads m t closed run (λ cpu es. All (λ e. CouplesLower cpu e.kind) es.items)
+          (λ thread r h. h.shows.lower);
     }
 
 modes : (m : Plan) (t : Trace) (closed : List Step) → IsRunOf m t closed → HasModes t
@@ -121,21 +105,21 @@ modes m t closed run =
     (λ turned e. turned_after turned e.kind) false es.items in
     subst (λ mode. All (OfMode mode) t.threads.items) (sym run.starts)
     (each_thread m t closed run (λ es. AreOfMode t.sched_offset false es.items)
-    (λ cpu r h. h.shows.modes t.sched_offset))
+    (λ thread r h. h.shows.modes t.sched_offset))
 
 -- ---- the readings
 
 ticket_order : (m : Plan) (t : Trace) (closed : List Step) (run : IsRunOf m t closed)
-    → IsTicketOrder (boot_blocks 0 t.boots.items) (map thread_blocks (events_of run.rans)) t.tickets
+    → IsTicketOrder (first_blocks t) (map thread_blocks (events_of run.rans)) t.tickets
 ticket_order m t closed run =
-    let boot : List Block = boot_blocks 0 t.boots.items in
+    let first : List Block = first_blocks t in
     let threads = all_threads m t closed run in
-    let rise : Rises boot = subst Rises run.drawn.blocks run.drawn.rises in
+    let rise : Rises first = subst Rises run.drawn.blocks run.drawn.rises in
     record {
       covers =
-          subst (λ (bs : List Block). Covers (boot ++ bs) t.tickets) (blocks_all (IsThread m t closed) (λ cpu r h. h.blocks) 0 run.rans threads) run.covers;
-      boot_rises = rises_from 0 boot (λ i d low. omega arith) rise;
-      lists_rise = rise_all (top_of 0 boot) (IsThread m t closed) (λ cpu r h. h.rises) 0 run.rans threads;
+          subst (λ (bs : List Block). Covers (first ++ bs) t.tickets) (blocks_all (IsThread m t closed) (λ thread r h. h.blocks) 0 run.rans threads) run.covers;
+      first_rise = rises_from 0 first (λ i d low. omega arith) rise;
+      lists_rise = rise_all (top_of 0 first) (IsThread m t closed) (λ thread r h. h.rises) 0 run.rans threads;
     }
 
 readings : (m : Plan) (t : Trace) (closed : List Step) → IsRunOf m t closed → HasRightReadings m t
@@ -143,35 +127,35 @@ readings m t closed run =
     let Owns : ℕ → Listed Event → Type 0 =
     λ cpu es. Along (λ last e. OwnsRecords m cpu (adjust_of t cpu) last e.kind) (λ last e. record_after last e.kind) (record_zero m) es.items in
     let Later : Listed Event → Type 0 = λ es. Along (λ named e. NamesLater named e.kind) (λ named e. named_after named e.kind) 0 es.items in
-    let own : EachFrom Owns 0 (events_of run.rans) = each_map (IsThread m t closed) Owns (thread_owned m t closed) 0 run.rans (all_threads m t closed run) in
-    let order = subst (λ ts. IsTicketOrder (boot_blocks 0 t.boots.items) (map thread_blocks ts) t.tickets) (sym run.threads) (ticket_order m t closed run) in
+    let order = subst (λ ts. IsTicketOrder (first_blocks t) (map thread_blocks ts) t.tickets) (sym run.threads) (ticket_order m t closed run) in
     record {
       boots = run.stamps.right;
-      threads = zip_cpus m t closed run (λ cpu es. All (λ e. IsRightKind m cpu (adjust_of t cpu) (records_of m t cpu) e.kind) es.items) (thread_right m t closed);
-      owners = subst (EachFrom Owns 0) (sym (owners_are m t closed run ∙ run.threads)) own;
-      readers = subst (All Later) (sym (no_readers m t closed run)) (All-nil Later);
-      tickets = subst (λ k. IsTicketOrder (boot_blocks k t.boots.items) (map thread_blocks t.threads.items) t.tickets) (sym run.epoch_ticket) order;
+      threads = zip_threads m t closed run (λ cpu es. All (λ e. IsRightKind m cpu (adjust_of t cpu) (records_of m t cpu) e.kind) es.items) (thread_right m t closed);
+      owners = each_owner m t closed run Owns (owner_records m t closed);
+      readers = All-drop Later (cpu_count m) t.threads.items (each_thread m t closed run Later (λ thread r h. h.shows.later));
+      tickets = subst (λ k. IsTicketOrder (boot_blocks k t.boots.items ++ up_blocks t.ups.cpus.items) (map thread_blocks t.threads.items) t.tickets) (sym run.epoch_ticket) order;
     }
 
 -- ---- the histories
 
 -- the steps of the trace are those of the threads
-steps_are : (m : Plan) (t : Trace) (closed : List Step) (run : IsRunOf m t closed) → steps_of t ≡ placed_from 0 run.rans
+steps_are : (m : Plan) (t : Trace) (closed : List Step) (run : IsRunOf m t closed) → steps_of t ≡ placed_from m 0 run.rans
 steps_are m t closed run =
     ap (λ cs. trace_steps 0 cs t.threads.items) run.cpu_of ∙ ap (trace_steps 0 (map (λ s. s.0) (threads_of m))) run.threads
-    ∙ placed_are 0 (map (λ s. s.0) (threads_of m)) run.rans (run.count ∙ sym (cpus_count m run.cpus_alone)) (cpus_numbers m run.cpus_alone)
+    ∙ placed_are m 0 (map (λ s. s.0) (threads_of m)) run.rans (run.count ∙ sym (cpus_count m)) (cpus_at m)
 
 -- what holds of each thread's steps holds of them
 each_step : (m : Plan) (t : Trace) (closed : List Step) (run : IsRunOf m t closed) (P : Placed → Type 0)
-    → ((cpu : ℕ) (r : Ran) → IsThread m t closed cpu r → All P (steps_from cpu cpu 0 r.events.items)) → All P (steps_of t)
+    → ((thread : ℕ) (r : Ran) → IsThread m t closed thread r → All P (steps_from thread (cpu_at m thread) 0 r.events.items)) → All P (steps_of t)
 each_step m t closed run P f =
-    subst (All P) (sym (steps_are m t closed run)) (placed_all P (IsThread m t closed) f 0 run.rans (all_threads m t closed run))
+    subst (All P) (sym (steps_are m t closed run)) (placed_all m P (IsThread m t closed) f 0 run.rans (all_threads m t closed run))
 
 -- the words' history has just them
 holds : (m : Plan) (t : Trace) (closed : List Step) (run : IsRunOf m t closed) → HoldsSteps (start_of m t.boots.items) closed (steps_of t)
 holds m t closed run =
     let all : all_steps run.joined ≡ map numbered (steps_of t) =
-    run.steps ∙ placed_mine (IsThread m t closed) (λ cpu r h. h.shows.mine) 0 run.rans (all_threads m t closed run) ∙ ap (map numbered) (sym (steps_are m t closed run)) in
+    run.steps ∙ placed_mine m (IsThread m t closed) (λ thread r h. h.shows.mine) 0 run.rans (all_threads m t closed run)
+    ∙ ap (map numbered) (sym (steps_are m t closed run)) in
     record { legal = run.complete.legal; once = λ f. ap (sum_by f) (sym all) ∙ sym (run.complete.once f) }
 
 -- the lists show them
@@ -200,12 +184,12 @@ histories m t closed run =
       words =
           subst (λ o. EachFrom (λ w lines. IsLegalHistory o (placed_on w (steps_of t)) lines.items) 0 t.histories.items) (sym run.start_word)
           (legal_words start closed (steps_of t) steps 0 t.histories.items (filled_at m t closed run));
-      targets = each_step m t closed run (ReachesTarget m.tick) (λ cpu r h. h.shows.targets);
+      targets = each_step m t closed run (ReachesTarget m.tick) (λ thread r h. h.shows.targets);
       sources =
           subst (λ o. All (λ p. NamesSource o (steps_of t) p.step.why) (steps_of t)) (sym run.start_word)
-          (names_sources start closed (steps_of t) steps (each_step m t closed run (NamesIn start closed) (λ cpu r h. h.shows.names closed h.begins)));
-      owners = subst (All Names) (sym (owners_are m t closed run)) (each_thread m t closed run Names (thread_names m t closed));
-      readers = none_zip Stamps (reader_cpus m t) (readers m t) (no_reader_cpus m t closed run) (no_readers m t closed run);
+          (names_sources start closed (steps_of t) steps (each_step m t closed run (NamesIn start closed) (λ thread r h. h.shows.names closed h.begins)));
+      owners = all_each Names 0 (owners m t) (each_owner m t closed run (λ cpu es. Names es) (owner_names m t closed));
+      readers = zip_rest Stamps (cpu_count m) t.cpu_of.items t.threads.items (zip_threads m t closed run Stamps (thread_stamps m t closed));
     }
 
 once : (m : Plan) (t : Trace) (closed : List Step) → IsRunOf m t closed → HoldsEachStepOnce t
@@ -222,9 +206,9 @@ lawful m t closed run =
       readings = readings m t closed run;
       histories = histories m t closed run;
       once = once m t closed run;
-      seen = zip_cpus m t closed run (λ cpu es. NeverFalls t.start_word (base_of t) cpu [] es.items) (thread_never_falls m t closed);
+      seen = zip_threads m t closed run (λ cpu es. NeverFalls t.start_word (base_of t) cpu [] es.items) (thread_never_falls m t closed);
       modes = modes m t closed run;
-      bring_up = record { count = run.ups_count; cpus = run.ups };
+      bring_up = run.ups;
       opening = opening m t closed run;
     }
 

@@ -1,13 +1,15 @@
 -- The threads of a run and the lists of its trace, side by side: the CPUs, the scripts, the events and the steps, each
 -- numbered from 0.
-use Rattle.std.proofs.Common.{◌≡◌, ℕ, ◌+◌, ◌<◌, List, [], ◌∷◌, ◌++◌, map, length, take, drop, get_or, drop-cons, refl, ap, ◌∙◌, sym, subst, arith, append-nil}
-use Rattle.std.proofs.lemmas.List.{map-append, get_or_default}
-use Rattle.std.proofs.lemmas.List.Elements.{All-nil, All-cons, All-append}
+use Rattle.std.proofs.Common.{◌≡◌, ℕ, zero, suc, ◌+◌, ◌<◌, ◌≤◌, List, [], ◌∷◌, ◌++◌, map, length, take, drop, get_or, drop-cons, refl, ap, ◌∙◌, sym, subst, arith, append-nil}
+use Rattle.std.proofs.lemmas.List.{map-append, length-map, get_or_default, get_or_append_left}
+use Rattle.std.proofs.lemmas.List.Elements.{All-nil, All-cons, All-append, All-map, All-weaker, All-get_or}
+use Rattle.std.proofs.lemmas.List.FromFn.{length-enumerate_from}
 use Rattle.std.specs.List.{All, AllZip, flat_map, enumerate_from}
 use Rattle.clk_base.specs.Walk.{EachFrom}
 use Rattle.clk_num.specs.Listed.{Listed}
 use Rattle.clk_words.specs.declared.step.Step.{Step}
 use Rattle.clk_machine.specs.Plan.{Plan, CpuPlan, ReaderPlan, count_of, cpu_count, all_words, thread_at, threads_of}
+use Rattle.clk_machine.specs.Limits.{IsReader, IsWithinLimits}
 use Rattle.clk_machine.specs.declared.script.Word.{Word}
 use Rattle.clk_trace.specs.Threads.{own_events}
 use Rattle.clk_trace.specs.WordHistory.{Placed, steps_from, all_steps}
@@ -15,7 +17,36 @@ use Rattle.clk_trace.specs.declared.event.Event.{Event}
 use Rattle.clk_trace.specs.declared.trace.Trace.{Trace}
 use Rattle.clk_trace.proofs.Gaining.{each_from}
 use Rattle.clk_worker.proofs.RunSteps.{numbered}
-use Rattle.clk_threads.specs.Finishing.{Ran, events_of, threads_are_cpus}
+use Rattle.clk_threads.specs.Finishing.{Ran, events_of}
+
+-- ---- what holds of each item and its number
+
+-- holds of the item at each place
+pub each_at : {A : Type 0} (P : ℕ → A → Type 0) (n : ℕ) (xs : List A) (k : ℕ) (d : A) → k < length xs → EachFrom P n xs → P (n + k) (get_or xs k d)
+each_at P n [] k d low each = absurd (omega (arith, low))
+each_at P n (x ∷ xs) zero d low each = let e : n ≡ n + 0 = omega arith in subst (λ (i : ℕ). P i x) e each.0
+each_at P n (x ∷ xs) (suc k) d low each =
+    let e : n + 1 + k ≡ n + suc k = omega arith in subst (λ (i : ℕ). P i (get_or xs k d)) e (each_at P (n + 1) xs k d (omega (arith, low)) each.1)
+
+-- what holds of the items numbered below `top` holds of so many of the first
+pub each_first : {A : Type 0} (P : ℕ → A → Type 0) (top n count : ℕ) (xs : List A) → n + count ≤ top → EachFrom (λ k x. k < top → P k x) n xs
+    → EachFrom P n (take count xs)
+each_first P top n zero xs low each = tt
+each_first P top n (suc count) [] low each = tt
+each_first P top n (suc count) (x ∷ xs) low each =
+    (each.0 (omega (arith, low)), each_first P top (n + 1) count xs (omega (arith, low)) each.1)
+
+pub all_each : {A : Type 0} (P : A → Type 0) (n : ℕ) (xs : List A) → EachFrom (λ k x. P x) n xs → All P xs
+all_each P n [] each = All-nil P
+all_each P n (x ∷ xs) each = All-cons P x xs each.0 (all_each P (n + 1) xs each.1)
+
+-- what holds of two lists holds of what is left of them
+pub zip_rest : {A B : Type 0} (R : A → B → Type 0) (n : ℕ) (xs : List A) (ys : List B) → AllZip R xs ys → AllZip R (drop n xs) (drop n ys)
+zip_rest R zero xs ys all = all
+zip_rest R (suc n) [] [] all = tt
+zip_rest R (suc n) [] (y ∷ ys) all = absurd all
+zip_rest R (suc n) (x ∷ xs) [] all = absurd all
+zip_rest R (suc n) (x ∷ xs) (y ∷ ys) all = zip_rest R n xs ys all.1
 
 -- ---- what holds of each thread holds of its events
 
@@ -40,15 +71,7 @@ each_zip I P Q f n [] (r ∷ rans) e here there = absurd (omega (arith, e))
 each_zip I P Q f n (x ∷ xs) [] e here there = absurd (omega (arith, e))
 each_zip I P Q f n (x ∷ xs) (r ∷ rans) e here there = (f n x r here.0 there.0, each_zip I P Q f (n + 1) xs rans (omega (arith, e)) here.1 there.1)
 
-pub each_both : {A : Type 0} (P Q : ℕ → A → Type 0) (n : ℕ) (xs : List A) → EachFrom P n xs → EachFrom Q n xs → EachFrom (λ k x. P k x × Q k x) n xs
-each_both P Q n [] p q = tt
-each_both P Q n (x ∷ xs) p q = ((p.0, q.0), each_both P Q (n + 1) xs p.1 q.1)
-
--- beside nothing
-pub none_zip : {A B : Type 0} (R : A → B → Type 0) (xs : List A) (ys : List B) → xs ≡ [] → ys ≡ [] → AllZip R xs ys
-none_zip R xs ys e f = subst (λ l. AllZip R l ys) (sym e) (subst (AllZip R []) (sym f) tt)
-
--- ---- the scripts
+-- ---- the threads of the machine
 
 abbrev script_of : ℕ × CpuPlan → ℕ × List Word
 script_of c = (c.0, all_words c.1.script)
@@ -56,24 +79,8 @@ script_of c = (c.0, all_words c.1.script)
 abbrev reader_script : ReaderPlan → ℕ × List Word
 reader_script r = (count_of r.cpu, all_words r.script)
 
-pub scripts_are : (m : Plan) → threads_are_cpus m → threads_of m ≡ map script_of (enumerate_from 0 m.cpu)
-scripts_are m none =
-    ap (λ (rs : List ReaderPlan). map script_of (enumerate_from 0 m.cpu) ++ map reader_script rs) none ∙ append-nil (map script_of (enumerate_from 0 m.cpu))
-
-script_count : (n : ℕ) (cs : List CpuPlan) → length (map script_of (enumerate_from n cs)) ≡ length cs
-script_count n [] = refl
-script_count n (c ∷ cs) = let e = script_count (n + 1) cs in omega (arith, e)
-
-script_numbers : (n : ℕ) (cs : List CpuPlan) → EachFrom (λ k s. s.0 ≡ k) n (map script_of (enumerate_from n cs))
-script_numbers n [] = tt
-script_numbers n (c ∷ cs) = (refl, script_numbers (n + 1) cs)
-
-pub threads_count : (m : Plan) → threads_are_cpus m → length (threads_of m) ≡ cpu_count m
-threads_count m none = ap length (scripts_are m none) ∙ script_count 0 m.cpu
-
--- each thread has its CPU's number
-pub threads_numbers : (m : Plan) → threads_are_cpus m → EachFrom (λ k (s : ℕ × List Word). s.0 ≡ k) 0 (threads_of m)
-threads_numbers m none = subst (EachFrom (λ k (s : ℕ × List Word). s.0 ≡ k) 0) (sym (scripts_are m none)) (script_numbers 0 m.cpu)
+abbrev pub cpu_at : Plan → ℕ → ℕ
+cpu_at m thread = (thread_at m thread).0
 
 pub threads_at : (m : Plan) → EachFrom (λ k s. thread_at m k ≡ s) 0 (threads_of m)
 threads_at m =
@@ -81,19 +88,45 @@ threads_at m =
     let e : 0 + k ≡ k = omega arith in
     ap (thread_at m) e ∙ get_or_default (threads_of m) k (0, []) d low)
 
-firsts : (n : ℕ) (ss : List (ℕ × List Word)) → EachFrom (λ k s. s.0 ≡ k) n ss → EachFrom (λ k x. x ≡ k) n (map (λ s. s.0) ss)
-firsts n [] h = tt
-firsts n (s ∷ ss) h = (h.0, firsts (n + 1) ss h.1)
+firsts : (m : Plan) (n : ℕ) (ss : List (ℕ × List Word)) → EachFrom (λ k s. thread_at m k ≡ s) n ss → EachFrom (λ k x. x ≡ cpu_at m k) n (map (λ s. s.0) ss)
+firsts m n [] h = tt
+firsts m n (s ∷ ss) h = (sym (ap (λ (x : ℕ × List Word). x.0) h.0), firsts m (n + 1) ss h.1)
 
-firsts_count : (ss : List (ℕ × List Word)) → length (map (λ s. s.0) ss) ≡ length ss
-firsts_count [] = refl
-firsts_count (s ∷ ss) = let e = firsts_count ss in omega (arith, e)
+-- the CPU of each
+pub cpus_at : (m : Plan) → EachFrom (λ k x. x ≡ cpu_at m k) 0 (map (λ s. s.0) (threads_of m))
+cpus_at m = firsts m 0 (threads_of m) (threads_at m)
 
-pub cpus_numbers : (m : Plan) → threads_are_cpus m → EachFrom (λ k x. x ≡ k) 0 (map (λ s. s.0) (threads_of m))
-cpus_numbers m none = firsts 0 (threads_of m) (threads_numbers m none)
+pub cpus_count : (m : Plan) → length (map (λ (s : ℕ × List Word). s.0) (threads_of m)) ≡ length (threads_of m)
+cpus_count m = length-map (threads_of m) (λ (s : ℕ × List Word). s.0)
 
-pub cpus_count : (m : Plan) → threads_are_cpus m → length (map (λ s. s.0) (threads_of m)) ≡ cpu_count m
-cpus_count m none = firsts_count (threads_of m) ∙ threads_count m none
+script_numbers : (n : ℕ) (cs : List CpuPlan) → EachFrom (λ k s. s.0 ≡ k) n (map script_of (enumerate_from n cs))
+script_numbers n [] = tt
+script_numbers n (c ∷ cs) = (refl, script_numbers (n + 1) cs)
+
+-- a CPU's own thread has its number
+pub owner_cpu : (m : Plan) (cpu : ℕ) → cpu < cpu_count m → cpu_at m cpu ≡ cpu
+owner_cpu m cpu low =
+    let scripts : List (ℕ × List Word) = map script_of (enumerate_from 0 m.cpu) in
+    let count : length scripts ≡ cpu_count m = length-map (enumerate_from 0 m.cpu) script_of ∙ length-enumerate_from 0 m.cpu in
+    let within : cpu < length scripts = omega (arith, low, count) in
+    let number : 0 + cpu ≡ cpu = omega arith in
+    ap (λ (s : ℕ × List Word). s.0) (get_or_append_left scripts (map reader_script m.reader) (0, []) cpu within)
+    ∙ each_at (λ k (s : ℕ × List Word). s.0 ≡ k) 0 scripts cpu (0, []) within (script_numbers 0 m.cpu) ∙ number
+
+scripts_below : (top n : ℕ) (cs : List CpuPlan) → n + length cs ≤ top → All (λ s. s.0 < top) (map script_of (enumerate_from n cs))
+scripts_below top n [] low = All-nil (λ (s : ℕ × List Word). s.0 < top)
+scripts_below top n (c ∷ cs) low =
+    All-cons (λ (s : ℕ × List Word). s.0 < top) (script_of (n, c)) (map script_of (enumerate_from (n + 1) cs)) (omega (arith, low))
+    (scripts_below top (n + 1) cs (omega (arith, low)))
+
+-- each thread is on a CPU of the machine
+pub thread_cpu : (m : Plan) (thread : ℕ) → IsWithinLimits m → thread < length (threads_of m) → cpu_at m thread < cpu_count m
+thread_cpu m thread limits low =
+    let Below : ℕ × List Word → Type 0 = λ s. s.0 < cpu_count m in
+    let readers : All Below (map reader_script m.reader) =
+    All-map Below reader_script m.reader (All-weaker (IsReader (cpu_count m)) (λ (r : ReaderPlan). count_of r.cpu < cpu_count m) (λ r h. h.cpu.1) m.reader limits.ranges.reader) in
+    All-get_or Below (threads_of m) thread (0, []) low
+    (All-append Below (map script_of (enumerate_from 0 m.cpu)) (map reader_script m.reader) (scripts_below (cpu_count m) 0 m.cpu (omega arith)) readers)
 
 -- ---- a CPU's own events are those of the thread with its number
 
@@ -111,32 +144,33 @@ own_each t rans e =
 
 -- ---- the steps of all threads
 
-abbrev pub placed_from : ℕ → List Ran → List Placed
-placed_from n [] = []
-placed_from n (r ∷ rans) = steps_from n n 0 r.events.items ++ placed_from (n + 1) rans
+abbrev pub placed_from : Plan → ℕ → List Ran → List Placed
+placed_from m n [] = []
+placed_from m n (r ∷ rans) = steps_from n (cpu_at m n) 0 r.events.items ++ placed_from m (n + 1) rans
 
-pub placed_are : (n : ℕ) (cpus : List ℕ) (rans : List Ran) → length rans ≡ length cpus → EachFrom (λ k x. x ≡ k) n cpus
-    → all_steps n cpus (events_of rans) ≡ placed_from n rans
-placed_are n [] [] e h = refl
-placed_are n [] (r ∷ rans) e h = absurd (omega (arith, e))
-placed_are n (c ∷ cpus) [] e h = absurd (omega (arith, e))
-placed_are n (c ∷ cpus) (r ∷ rans) e h =
+pub placed_are : (m : Plan) (n : ℕ) (cpus : List ℕ) (rans : List Ran) → length rans ≡ length cpus → EachFrom (λ k x. x ≡ cpu_at m k) n cpus
+    → all_steps n cpus (events_of rans) ≡ placed_from m n rans
+placed_are m n [] [] e h = refl
+placed_are m n [] (r ∷ rans) e h = absurd (omega (arith, e))
+placed_are m n (c ∷ cpus) [] e h = absurd (omega (arith, e))
+placed_are m n (c ∷ cpus) (r ∷ rans) e h =
     ap (λ k. steps_from n k 0 r.events.items ++ all_steps (n + 1) cpus (events_of rans)) h.0
-    ∙ ap (λ (ps : List Placed). steps_from n n 0 r.events.items ++ ps) (placed_are (n + 1) cpus rans (omega (arith, e)) h.1)
+    ∙ ap (λ (ps : List Placed). steps_from n (cpu_at m n) 0 r.events.items ++ ps) (placed_are m (n + 1) cpus rans (omega (arith, e)) h.1)
 
 -- what holds of each thread's steps holds of all
-pub placed_all : (P : Placed → Type 0) (F : ℕ → Ran → Type 0) → ((k : ℕ) (r : Ran) → F k r → All P (steps_from k k 0 r.events.items))
-    → (n : ℕ) (rans : List Ran) → EachFrom F n rans → All P (placed_from n rans)
-placed_all P F f n [] h = All-nil P
-placed_all P F f n (r ∷ rans) h =
-    All-append P (steps_from n n 0 r.events.items) (placed_from (n + 1) rans) (f n r h.0) (placed_all P F f (n + 1) rans h.1)
+pub placed_all : (m : Plan) (P : Placed → Type 0) (F : ℕ → Ran → Type 0) → ((k : ℕ) (r : Ran) → F k r → All P (steps_from k (cpu_at m k) 0 r.events.items))
+    → (n : ℕ) (rans : List Ran) → EachFrom F n rans → All P (placed_from m n rans)
+placed_all m P F f n [] h = All-nil P
+placed_all m P F f n (r ∷ rans) h =
+    All-append P (steps_from n (cpu_at m n) 0 r.events.items) (placed_from m (n + 1) rans) (f n r h.0) (placed_all m P F f (n + 1) rans h.1)
 
 -- the words have them of the seats
-pub placed_mine : (F : ℕ → Ran → Type 0) → ((k : ℕ) (r : Ran) → F k r → r.ended.view.mine ≡ map numbered (steps_from k k 0 r.events.items))
-    → (n : ℕ) (rans : List Ran) → EachFrom F n rans → flat_map (λ (r : Ran). r.ended.view.mine) rans ≡ map numbered (placed_from n rans)
-placed_mine F f n [] h = refl
-placed_mine F f n (r ∷ rans) h =
-    let here : List Placed = steps_from n n 0 r.events.items in
+pub placed_mine : (m : Plan) (F : ℕ → Ran → Type 0)
+    → ((k : ℕ) (r : Ran) → F k r → r.ended.view.mine ≡ map numbered (steps_from k (cpu_at m k) 0 r.events.items))
+    → (n : ℕ) (rans : List Ran) → EachFrom F n rans → flat_map (λ (r : Ran). r.ended.view.mine) rans ≡ map numbered (placed_from m n rans)
+placed_mine m F f n [] h = refl
+placed_mine m F f n (r ∷ rans) h =
+    let here : List Placed = steps_from n (cpu_at m n) 0 r.events.items in
     ap (λ (xs : List Step). xs ++ flat_map (λ (x : Ran). x.ended.view.mine) rans) (f n r h.0)
-    ∙ ap (λ (xs : List Step). map numbered here ++ xs) (placed_mine F f (n + 1) rans h.1)
-    ∙ sym (map-append numbered here (placed_from (n + 1) rans))
+    ∙ ap (λ (xs : List Step). map numbered here ++ xs) (placed_mine m F f (n + 1) rans h.1)
+    ∙ sym (map-append numbered here (placed_from m (n + 1) rans))

@@ -1,4 +1,5 @@
--- The tickets of a run of several threads: those of the boot first, then each thread's, which rise by themselves.
+-- The tickets of a run of several threads: those of the boot and the bring-up first, then each thread's, which rise by
+-- themselves.
 use Rattle.std.proofs.Common.{◌≡◌, ℕ, ◌+◌, ◌≤◌, List, [], ◌∷◌, ◌++◌, map, refl, ap, ◌∙◌, sym, subst, arith}
 use Rattle.std.specs.List.{All, flat_map}
 use Rattle.std.proofs.lemmas.List.Elements.{All-nil, All-cons}

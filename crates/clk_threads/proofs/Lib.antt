@@ -1,6 +1,10 @@
 pub mod Filling
+pub mod Numbering
+pub mod Latching
+pub mod Following
 pub mod Giving
 pub mod Sharing
+pub mod Bringing
 pub mod Stamping
 pub mod LawfulLists
 pub mod LawfulThreads

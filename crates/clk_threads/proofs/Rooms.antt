@@ -1,18 +1,17 @@
 -- The lists of a run have room: a thread makes no more steps on a clock word than its script calls for.
-use Rattle.std.proofs.Common.{◌≡◌, ℕ, ◌+◌, ◌^◌, ◌<◌, ◌≤◌, ℤ, pos, Bool, true, false, cond, nat_eq, List, [], ◌∷◌, ◌++◌, map, length, get_or, refl, sym, ap, ◌∙◌, subst, arith, length-append}
+use Rattle.std.proofs.Common.{◌≡◌, ℕ, ◌+◌, ◌^◌, ◌<◌, ◌≤◌, ℤ, Bool, true, false, cond, nat_eq, List, [], ◌∷◌, ◌++◌, map, length, get_or, refl, sym, ap, ◌∙◌, subst, arith, length-append}
 use Rattle.std.specs.Prelude.{MatchBool}
 use Rattle.std.specs.List.{All, sum_by}
 use Rattle.std.proofs.lemmas.List.{length-map}
-use Rattle.std.proofs.lemmas.List.Elements.{All-nil, All-cons, All-head, All-tail, All-from_get_or, filter-append}
+use Rattle.std.proofs.lemmas.List.Elements.{All-nil, All-cons, All-head, All-tail, All-map, All-from_get_or, filter-append}
 use Rattle.std.proofs.lemmas.List.Sums.{sum_by-cons}
 use Rattle.clk_base.specs.Walk.{EachFrom}
 use Rattle.clk_num.specs.Listed.{Listed}
 use Rattle.clk_words.specs.LowerWord.{is_lower}
-use Rattle.clk_words.specs.declared.opening.Mode.TheVariants.{Stable as StableMode, PerCpu}
 use Rattle.clk_machine.specs.declared.script.Word.{Word}
 use Rattle.clk_machine.specs.declared.script.Word.TheVariants as word
 use Rattle.clk_machine.specs.Plan.{Plan, count_of, cpu_count, thread_at, threads_of}
-use Rattle.clk_machine.specs.Limits.{is_second, IsWithinLimits}
+use Rattle.clk_machine.specs.Limits.{IsWithinLimits}
 use Rattle.clk_machine.specs.Steps.{on_word, steps_for}
 use Rattle.clk_words.specs.declared.step.Why.TheVariants as why
 use Rattle.clk_trace.specs.Couples.{CouplesLower, named_word, named_value}
@@ -23,20 +22,15 @@ use Rattle.clk_trace.specs.declared.event.Event.{Event}
 use Rattle.clk_trace.specs.declared.event.EventKind.{EventKind}
 use Rattle.clk_trace.specs.declared.event.EventKind.TheVariants.{Stable, Local, Couple, Stamp, Nothing, Update, Pause}
 use Rattle.clk_trace.specs.declared.trace.HistoryStep.{HistoryStep}
-use Rattle.clk_worker.specs.Calling.{site_at, has}
 use Rattle.clk_worker.specs.Making.{Hand}
-use Rattle.clk_worker.proofs.RunKeeping.{IsHome}
-use Rattle.clk_worker.proofs.RunModes.{runs_lower}
-use Rattle.clk_worker.proofs.RunNamed.{runs_below}
 use Rattle.clk_worker.proofs.Scripts.{thread_words}
-use Rattle.clk_threads.specs.Preparing.{start_of, steps_room, no_steps, histories_below, IsPrepared}
-use Rattle.clk_threads.specs.Workers.{post_of}
-use Rattle.clk_threads.specs.Ending.{shared_of, begun_trace, whole_trace}
+use Rattle.clk_threads.specs.Preparing.{steps_room, no_steps, histories_below, IsPrepared}
+use Rattle.clk_threads.specs.Ending.{begun_trace, whole_trace}
 use Rattle.clk_threads.specs.declared.prepared.Prepared.{Prepared}
-use Rattle.clk_threads.proofs.Beginning.{fresh_own}
 use Rattle.clk_threads.proofs.Built.{IsBuilt, built_count, built_at}
-use Rattle.clk_threads.proofs.LawfulLists.{threads_count, threads_numbers, threads_at, cpus_numbers, cpus_count}
-use Rattle.clk_threads.proofs.Leaving.{HasLeft, given}
+use Rattle.clk_threads.proofs.LawfulLists.{threads_at, cpus_count, thread_cpu}
+use Rattle.clk_threads.proofs.Leaving.{HasLeft, ran_whole, left_shows}
+use Rattle.clk_threads.proofs.Numbering.{threads_few}
 
 -- ---- the steps of events
 
@@ -207,49 +201,36 @@ script_room w cpu m (u ∷ ws) es h =
 
 -- ---- what each thread leaves fits in
 
-pub record FitsIn (m : Plan) (cpu : ℕ) (es : Listed Event) : Type 0 where
-  pub script : AreEventsOf cpu 0 (thread_at m cpu).1 es.items
-  pub lower : All (λ e. CouplesLower cpu e.kind) es.items
+pub record FitsIn (m : Plan) (thread : ℕ) (es : Listed Event) : Type 0 where
+  pub script : AreEventsOf (thread_at m thread).0 0 (thread_at m thread).1 es.items
+  pub lower : All (λ e. CouplesLower (thread_at m thread).0 e.kind) es.items
   pub below : All (λ e. NamesWordsBelow (cpu_count m) e.kind) es.items
   pub few : length es.items < 2 ^ 32
 
-pub fits_in : (p : Prepared) (ip : IsPrepared p.machine p) → p.machine.stable ≡ false → (cpu : ℕ) (h : Hand) → cpu < cpu_count p.machine → HasLeft p ip.booted cpu h
-    → AreEventsOf cpu 0 (thread_at p.machine cpu).1 h.events.items → FitsIn p.machine cpu h.events
-fits_in p ip percpu cpu h low l script =
+pub fits_in : (p : Prepared) (ip : IsPrepared p.machine p) → p.machine.stable ≡ false → (thread : ℕ) (h : Hand) → thread < length (threads_of p.machine)
+    → (l : HasLeft p ip.booted thread h) → FitsIn p.machine thread h.events
+fits_in p ip percpu thread h low l =
     let m : Plan = p.machine in
-    let start = start_of m p.stamps.items in
-    let z = site_at (shared_of p) (post_of (pos 0) cpu) 0 in
-    let began = has (fresh_own p ip.booted l.latch cpu) in
-    let g = given p ip percpu cpu in
-    let mode : start.opening.mode ≡ PerCpu = ap (λ (b : Bool). cond b StableMode PerCpu) percpu in
-    let home : IsHome cpu start (cpu + 1) began.view = record { percpu = mode; start_is = g.start_is; number_is = g.number_is; kind_is = g.kind_is } in
-    let threads = threads_count m ip.cpus.readers in
-    let words = (thread_words m cpu ip.limits (omega (arith, low, threads))).few in
+    let shows = left_shows p ip percpu thread h low l in
+    let words = (thread_words m thread ip.limits low).few in
     let few = l.made.few in
-    record {
-      script = script;
-      lower = runs_lower z began h.events.items (has l.own) l.made.runs;
-      below = runs_below z start (cpu + 1) began h.events.items (has l.own) home low l.made.runs;
-      few = omega (arith, few, words);
-    }
+    record { script = (ran_whole p ip percpu thread h l).script; lower = shows.lower; below = shows.below; few = omega (arith, few, words) }
 
 -- ---- all threads, beside their scripts
 
 threads_room : (m : Plan) (w n : ℕ) (ts : List (ℕ × List Word)) (threads : List (Listed Event)) → length threads ≡ length ts
-    → EachFrom (λ k t. t.0 ≡ k) n ts → EachFrom (λ k t. thread_at m k ≡ t) n ts → EachFrom (FitsIn m) n threads
+    → EachFrom (λ k t. thread_at m k ≡ t) n ts → EachFrom (FitsIn m) n threads
     → length (steps_on w (all_steps n (map (λ (t : ℕ × List Word). t.0) ts) threads)) ≤ sum_by (λ (t : ℕ × List Word). sum_by (steps_for w t.0) t.1) ts
-threads_room m w n [] threads count numbers at fits = omega arith
-threads_room m w n (t ∷ ts) [] count numbers at fits = absurd (omega (arith, count))
-threads_room m w n (t ∷ ts) (es ∷ threads) count numbers at fits =
+threads_room m w n [] threads count at fits = omega arith
+threads_room m w n (t ∷ ts) [] count at fits = absurd (omega (arith, count))
+threads_room m w n (t ∷ ts) (es ∷ threads) count at fits =
     let On : Placed → Bool = λ p. nat_eq p.step.word w in
     let cpus : List ℕ = map (λ (x : ℕ × List Word). x.0) ts in
-    let cpu : n ≡ t.0 = sym numbers.0 in
-    let script : AreEventsOf t.0 0 t.1 es.items =
-    subst (λ (k : ℕ). AreEventsOf k 0 t.1 es.items) cpu (subst (λ (x : ℕ × List Word). AreEventsOf n 0 x.1 es.items) at.0 fits.0.script) in
-    let lower = subst (λ (k : ℕ). All (λ (e : Event). CouplesLower k e.kind) es.items) cpu fits.0.lower in
+    let script : AreEventsOf t.0 0 t.1 es.items = subst (λ (x : ℕ × List Word). AreEventsOf x.0 0 x.1 es.items) at.0 fits.0.script in
+    let lower = subst (λ (x : ℕ × List Word). All (λ (e : Event). CouplesLower x.0 e.kind) es.items) at.0 fits.0.lower in
     let here = event_steps w n t.0 0 es.items lower in
     let called = script_room w t.0 0 t.1 es.items script in
-    let rest = threads_room m w (n + 1) ts threads (omega (arith, count)) numbers.1 at.1 fits.1 in
+    let rest = threads_room m w (n + 1) ts threads (omega (arith, count)) at.1 fits.1 in
     let both = ap length (filter-append On (steps_from n t.0 0 es.items) (all_steps (n + 1) cpus threads)) in
     let sum = length-append (steps_on w (steps_from n t.0 0 es.items)) (steps_on w (all_steps (n + 1) cpus threads)) in
     let sums = sum_by-cons (λ (x : ℕ × List Word). sum_by (steps_for w x.0) x.1) t ts in
@@ -266,51 +247,34 @@ each_below : (m : Plan) (n : ℕ) (threads : List (Listed Event)) → EachFrom (
 each_below m n [] fits = All-nil (AllBelow (cpu_count m))
 each_below m n (es ∷ threads) fits = All-cons (AllBelow (cpu_count m)) es threads fits.0.below (each_below m (n + 1) threads fits.1)
 
-cpus_below : (c n : ℕ) (cs : List ℕ) → EachFrom (λ k x. x ≡ k) n cs → n + length cs ≤ c → All (λ x. x < c) cs
-cpus_below c n [] numbers few = All-nil (λ x. x < c)
-cpus_below c n (x ∷ cs) numbers few =
-    let is = numbers.0 in
-    All-cons (λ y. y < c) x cs (omega (arith, is, few)) (cpus_below c (n + 1) cs numbers.1 (omega (arith, few)))
-
-most_few : (b : Bool) → cond b 64 16 ≤ 64
-most_few true = omega arith
-most_few false = omega arith
-
-pub cpus_few : (m : Plan) → IsWithinLimits m → (1 ≤ cpu_count m) × (cpu_count m ≤ 64)
-cpus_few m l =
-    let range = l.ranges.cpus in
-    let low = range.1 in
-    let high = range.2 in
-    let same = ap count_of l.ranges.cpu_each in
-    let most = most_few (is_second m.version) in
-    (omega (arith, low, same), omega (arith, high, same, most))
+cpus_below : (m : Plan) → IsWithinLimits m → All (λ x. x < cpu_count m) (map (λ (t : ℕ × List Word). t.0) (threads_of m))
+cpus_below m limits =
+    All-map (λ x. x < cpu_count m) (λ (t : ℕ × List Word). t.0) (threads_of m)
+    (All-from_get_or (λ (t : ℕ × List Word). t.0 < cpu_count m) (threads_of m) (0, []) (λ i low. thread_cpu m i limits low))
 
 -- ---- the histories
 
 pub histories_built : (m : Plan) → IsBuilt (histories_below m) (no_steps m)
 histories_built m = record { none = refl; more = λ n. refl }
 
-pub may_fill : (p : Prepared) (ip : IsPrepared p.machine p) (threads : Listed (Listed Event)) (tickets : ℕ) → length threads.items ≡ cpu_count p.machine
+pub may_fill : (p : Prepared) (ip : IsPrepared p.machine p) (threads : Listed (Listed Event)) (tickets : ℕ) → length threads.items ≡ length (threads_of p.machine)
     → EachFrom (FitsIn p.machine) 0 threads.items → MayFill (whole_trace (begun_trace p) threads tickets)
 may_fill p ip threads tickets count fits =
     let m : Plan = p.machine in
     let n : ℕ = cpu_count m in
-    let none = ip.cpus.readers in
     let lists = ip.lists in
     let cpus : List ℕ = map (λ (t : ℕ × List Word). t.0) (threads_of m) in
-    let cpus_n : length cpus ≡ n = cpus_count m none in
     let built : length p.lists.histories.items ≡ n = ap length lists.histories ∙ built_count (histories_below m) (no_steps m) (histories_built m) n in
-    let scripts : length threads.items ≡ length (threads_of m) = count ∙ sym (threads_count m none) in
     let empty_at : (w : ℕ) (d : Listed HistoryStep) → w < length p.lists.histories.items → get_or p.lists.histories.items w d ≡ no_steps m w = λ w d low.
     ap (λ (ls : List (Listed HistoryStep)). get_or ls w d) lists.histories
     ∙ built_at (histories_below m) (no_steps m) (histories_built m) n w d (omega (arith, low, built)) in
     record {
-      count = ap length lists.cpu_of ∙ cpus_n ∙ sym count;
-      few = (let few = (cpus_few m ip.limits).1 in omega (arith, count, few));
+      count = ap length lists.cpu_of ∙ cpus_count m ∙ sym count;
+      few = (let few = threads_few m ip.limits in omega (arith, count, few));
       words = record {
         cpus =
             subst (λ (k : ℕ). All (λ x. x < k) p.lists.cpu_of.items) (sym built)
-            (subst (λ (cs : List ℕ). All (λ x. x < n) cs) (sym lists.cpu_of) (cpus_below n 0 cpus (cpus_numbers m none) (omega (arith, cpus_n))));
+            (subst (λ (cs : List ℕ). All (λ x. x < n) cs) (sym lists.cpu_of) (cpus_below m ip.limits));
         few = each_few m 0 threads.items fits;
         words = subst (λ (k : ℕ). All (AllBelow k) threads.items) (sym built) (each_below m 0 threads.items fits);
       };
@@ -319,8 +283,7 @@ may_fill p ip threads tickets count fits =
           ap (λ (l : Listed HistoryStep). l.items) (empty_at i (no_steps m 0) low));
       room = λ w d low.
           let room = ap (λ (l : Listed HistoryStep). l.room) (empty_at w d low) in
-          let few : length (steps_on w (all_steps 0 cpus threads.items)) ≤ steps_room m w =
-          threads_room m w 0 (threads_of m) threads.items scripts (threads_numbers m none) (threads_at m) fits in
+          let few : length (steps_on w (all_steps 0 cpus threads.items)) ≤ steps_room m w = threads_room m w 0 (threads_of m) threads.items count (threads_at m) fits in
           let steps = ap (λ (cs : List ℕ). length (lines_on w (all_steps 0 cs threads.items))) lists.cpu_of
           ∙ length-map (steps_on w (all_steps 0 cpus threads.items)) line_of in
           omega (arith, room, few, steps);

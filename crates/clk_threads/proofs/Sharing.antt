@@ -1,13 +1,10 @@
 -- The tickets of all threads, split off one seat.
-use Rattle.std.proofs.Common.{◌≡◌, ℕ, ◌+◌, ◌^◌, ◌<◌, ◌≤◌, Bool, true, false, cond, List, [], ◌∷◌, ◌++◌, length, map, get_or, take, refl, ap, ◌∙◌, arith}
+use Rattle.std.proofs.Common.{◌≡◌, ℕ, ◌+◌, ◌<◌, ◌≤◌, List, [], ◌∷◌, ◌++◌, length, map, get_or, take, refl, ap, ◌∙◌, arith}
 use Rattle.std.specs.List.{sum_by}
 use Rattle.std.proofs.lemmas.List.{take_more, map-append}
 use Rattle.std.proofs.lemmas.List.Sums.{sum_by-cons, sum_by_more}
 use Rattle.clk_ticket.specs.Time.{Time, without, share_of}
 use Rattle.clk_machine.specs.declared.script.Word.{Word}
-use Rattle.clk_machine.specs.Plan.{Plan}
-use Rattle.clk_machine.specs.Limits.{is_second, most_tickets, IsWithinLimits}
-use Rattle.clk_machine.specs.Tickets.{boot_tickets, word_tickets}
 use Rattle.clk_threads.specs.Preparing.{thread_tickets, time_seat}
 
 -- what f gives for one item more
@@ -36,16 +33,3 @@ shares t (s ∷ ts) =
 pub shares_all : (t : Time) (ts : List (ℕ × List Word)) → sum_by thread_tickets ts ≤ t.left
     → share_of (without (sum_by thread_tickets ts) t) + sum_by share_of (map (time_seat t) ts) ≡ share_of t
 shares_all t ts h = let all = shares t ts in omega (arith, all, h)
-
--- ---- how many there are
-
-limit_few : (second : Bool) → cond second (2 ^ 26) (2 ^ 24) ≤ most_tickets
-limit_few true = omega arith
-limit_few false = omega arith
-
--- the boot left the tickets of all scripts
-pub words_left : (m : Plan) (left : ℕ) → IsWithinLimits m → left + boot_tickets m ≡ most_tickets → word_tickets m ≤ left
-words_left m left l e =
-    let needed = l.tickets in
-    let few = limit_few (is_second m.version) in
-    omega (arith, needed, few, e)

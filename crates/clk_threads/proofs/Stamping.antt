@@ -14,13 +14,14 @@ use Rattle.clk_ticket.specs.Time.{Tickets, Time, Draws, fresh, share_of}
 use Rattle.clk_words.specs.Bounds.{IsGtod}
 use Rattle.clk_machine.specs.Plan.{Plan, count_of}
 use Rattle.clk_machine.specs.Limits.{most_tickets}
+use Rattle.clk_machine.specs.Tickets.{boot_tickets}
 use Rattle.clk_machine.specs.Time.{reference_at, reference_rate, gtod_at}
 use Rattle.clk_machine.specs.Records.{record_zero, base_of}
 use Rattle.clk_machine.proofs.Travel.{time_rises}
 use Rattle.clk_latch.specs.Epoch.{Epoch, owner_of}
-use Rattle.clk_trace.specs.TicketOrder.{one}
+use Rattle.clk_trace.specs.TicketOrder.{one, boot_blocks, up_blocks}
 use Rattle.clk_trace.specs.RightReadings.{IsRightStamp}
-use Rattle.clk_trace.specs.declared.trace.StableStamp.{StableStamp}
+use Rattle.clk_demote.specs.declared.events.StableStamp.{StableStamp}
 use Rattle.clk_threads.specs.Booting.{HasEpoch, MayStamp, HasStamped, gtod_offset_of, AreStamps, HasDrawnFirst}
 
 -- monotonic time does not fall
@@ -34,7 +35,7 @@ gtod_rises m i k h =
 
 -- ---- tickets
 
-all_end_later : (n k : ℕ) (bs : List Block) → n ≤ k → AllEndBy n bs → AllEndBy k bs
+pub all_end_later : (n k : ℕ) (bs : List Block) → n ≤ k → AllEndBy n bs → AllEndBy k bs
 all_end_later n k [] h all = All-nil (λ (b : Block). end_of b ≤ k)
 all_end_later n k (b ∷ bs) h all =
     let here = All-head (λ (c : Block). end_of c ≤ n) b bs all in
@@ -48,6 +49,7 @@ pub record HasDrawn (tickets : Tickets) (bs : List Block) (n : ℕ) (time : Time
   pub share : share_of time ≡ most_tickets
   pub rises : Rises time.blocks
   pub ends : AllEndBy time.seen time.blocks
+  pub within : time.seen ≤ most_tickets
 
 ends_after : (before after : Time) (k : ℕ) → Draws before k 1 after → AllEndBy after.seen after.blocks
 ends_after before after k d =
@@ -62,6 +64,8 @@ pub draws_one : (tickets : Tickets) (bs : List Block) (n k : ℕ) (before after 
 draws_one tickets bs n k before after h few d =
     let was = h.left in
     let left = ap (λ (t : Time). t.left) d.is in
+    let seen = ap (λ (t : Time). t.seen) d.is in
+    let bound = d.bound in
     record {
       table = ap (λ (t : Time). t.table) d.is ∙ h.table;
       blocks = ap (λ (t : Time). t.blocks) d.is ∙ ap (λ (cs : List Block). cs ++ one k ∷ []) h.blocks;
@@ -69,11 +73,13 @@ draws_one tickets bs n k before after h few d =
       share = d.share ∙ h.share;
       rises = d.rises h.rises;
       ends = ends_after before after k d;
+      within = omega (arith, seen, bound);
     }
 
 pub draws_epoch : (tickets : Tickets) (time : Time) → HasEpoch tickets time → HasDrawn tickets (one 0 ∷ []) 1 time
 draws_epoch tickets time d =
     let left = ap (λ (t : Time). t.left) d.is in
+    let seen = ap (λ (t : Time). t.seen) d.is in
     record {
       table = ap (λ (t : Time). t.table) d.is;
       blocks = ap (λ (t : Time). t.blocks) d.is;
@@ -81,6 +87,7 @@ draws_epoch tickets time d =
       share = d.share;
       rises = d.rises tt;
       ends = ends_after (fresh tickets.table most_tickets 0) time 0 d;
+      within = omega (arith, seen);
     }
 
 -- ---- heights
@@ -168,18 +175,21 @@ one_stamp m before after epoch s percpu h =
       sched_near = rw percpu (omega (arith, ints), omega (arith, ints));
     }
 
+-- what such a boot drew of a table's tickets, and what it left
+pub record Drew (m : Plan) (tickets : Tickets) (stamps : List StableStamp) (time : Time) : Type 0 where
+  pub drawn : HasDrawnFirst tickets stamps [] time
+  pub left : time.left + boot_tickets m ≡ most_tickets
+
+drawn_first : (tickets : Tickets) (stamps : List StableStamp) (n : ℕ) (time : Time) → HasDrawn tickets (boot_blocks 0 stamps ++ up_blocks []) n time
+    → HasDrawnFirst tickets stamps [] time
+drawn_first tickets stamps n time h =
+    record { table = h.table; blocks = h.blocks; share = h.share; rises = h.rises; ends = h.ends; within = h.within }
+
 pub one_drawn : (m : Plan) (tickets : Tickets) (before after : Time) (epoch : Epoch) (s : StableStamp) → m.stable ≡ false → HasEpoch tickets before
-    → HasStamped m before after epoch s → HasDrawnFirst m tickets (s ∷ []) after
+    → HasStamped m before after epoch s → Drew m tickets (s ∷ []) after
 one_drawn m tickets before after epoch s percpu d h =
     let drawn = stamp_draws tickets (one 0 ∷ []) 1 m before after epoch s (omega arith) (draws_epoch tickets before d) h in
-    record {
-      table = drawn.table;
-      blocks = drawn.blocks;
-      left = rw percpu drawn.left;
-      share = drawn.share;
-      rises = drawn.rises;
-      ends = drawn.ends;
-    }
+    record { drawn = drawn_first tickets (s ∷ []) 3 after drawn; left = rw percpu drawn.left }
 
 -- the second stamp with the offset of the first
 abbrev pub with_offset : ℤ → StableStamp → StableStamp
@@ -205,15 +215,8 @@ two_stamps m before middle after d e s t stable h k =
     }
 
 pub two_drawn : (m : Plan) (tickets : Tickets) (before middle after : Time) (d e : Epoch) (s t : StableStamp) → m.stable ≡ true → HasEpoch tickets before
-    → HasStamped m before middle d s → HasStamped m middle after e t → HasDrawnFirst m tickets (s ∷ with_offset s.offset t ∷ []) after
+    → HasStamped m before middle d s → HasStamped m middle after e t → Drew m tickets (s ∷ with_offset s.offset t ∷ []) after
 two_drawn m tickets before middle after d e s t stable began h k =
     let first = stamp_draws tickets (one 0 ∷ []) 1 m before middle d s (omega arith) (draws_epoch tickets before began) h in
     let drawn = stamp_draws tickets (one 0 ∷ one s.gtod_ticket ∷ one s.raw.ticket ∷ []) 3 m middle after e t (omega arith) first k in
-    record {
-      table = drawn.table;
-      blocks = drawn.blocks;
-      left = rw stable drawn.left;
-      share = drawn.share;
-      rises = drawn.rises;
-      ends = drawn.ends;
-    }
+    record { drawn = drawn_first tickets (s ∷ with_offset s.offset t ∷ []) 5 after drawn; left = rw stable drawn.left }

@@ -1,5 +1,5 @@
--- What the boot leaves.
-use Rattle.std.specs.Prelude.{◌≡◌, ◌+◌, ◌*◌, ◌^◌, ◌≤◌, true, ℤ, pos, ◌+ℤ◌, ◌-ℤ◌, List, [], ◌∷◌, length, if◌then◌else◌}
+-- What the boot leaves, and what a bring-up after it leaves of that.
+use Rattle.std.specs.Prelude.{◌≡◌, ◌+◌, ◌*◌, ◌^◌, ◌≤◌, true, ℤ, pos, ◌+ℤ◌, ◌-ℤ◌, List, [], ◌∷◌, ◌++◌, length, if◌then◌else◌}
 use Rattle.std.specs.List.{All}
 use Rattle.clk_base.specs.Blocks.{AllEndBy, Rises}
 use Rattle.clk_num.specs.Range.{IsNear, IsFrom0To}
@@ -10,13 +10,15 @@ use Rattle.clk_words.specs.declared.opening.Opening.{Opening}
 use Rattle.clk_words.specs.Bounds.{IsGtod, opens_of, IsOpening}
 use Rattle.clk_machine.specs.Plan.{Plan}
 use Rattle.clk_machine.specs.Limits.{most_tickets, IsWithinLimits}
-use Rattle.clk_machine.specs.Tickets.{boot_tickets}
+use Rattle.clk_machine.specs.Tickets.{boot_tickets, word_tickets}
 use Rattle.clk_machine.specs.Records.{record_zero, above_base}
 use Rattle.clk_latch.specs.Epoch.{Epoch}
-use Rattle.clk_trace.specs.TicketOrder.{boot_blocks}
+use Rattle.clk_adjust.specs.declared.up.CpuUp.{CpuUp}
+use Rattle.clk_adjust.specs.declared.up.BroughtUp.{BroughtUp}
+use Rattle.clk_trace.specs.TicketOrder.{boot_blocks, up_blocks}
 use Rattle.clk_trace.specs.RightReadings.{IsRightStamp}
 use Rattle.clk_trace.specs.Stamps.{no_pair, first_pair, last_pair}
-use Rattle.clk_trace.specs.declared.trace.StableStamp.{StableStamp}
+use Rattle.clk_demote.specs.declared.events.StableStamp.{StableStamp}
 use Rattle.clk_threads.specs.declared.booted.Booted.{Booted}
 use Rattle.clk_threads.specs.declared.booted.Started.{Started}
 
@@ -76,29 +78,43 @@ pub record AreStamps (m : Plan) (stamps : List StableStamp) : Type 0 where
   pub near : IsFrom0To (2 ^ 57) (above_base m (opens_of (opening_of m stamps)))
   pub sched_near : IsNear 57 (sched_offset_of m stamps)
 
--- the seat drew the tickets of the epoch and of these stamps, the first of the run, and has the rest
-pub record HasDrawnFirst (m : Plan) (tickets : Tickets) (stamps : List StableStamp) (time : Time) : Type 0 where
+-- the seat drew the tickets of the epoch, of these stamps and of the readings of these CPUs' bring-up, the first of the run,
+-- and has the rest
+pub record HasDrawnFirst (tickets : Tickets) (stamps : List StableStamp) (ups : List CpuUp) (time : Time) : Type 0 where
   pub table : time.table ≡ tickets.table
-  pub blocks : time.blocks ≡ boot_blocks 0 stamps
-  pub left : time.left + boot_tickets m ≡ most_tickets
+  pub blocks : time.blocks ≡ boot_blocks 0 stamps ++ up_blocks ups
   pub share : share_of time ≡ most_tickets
   pub rises : Rises time.blocks
   pub ends : AllEndBy time.seen time.blocks
+  pub within : time.seen ≤ most_tickets
 
 pub record HasStarted (m : Plan) (tickets : Tickets) (time : Time) (s : Started) : Type 0 where
   pub stamps : AreStamps m s.stamps.items
-  pub drawn : HasDrawnFirst m tickets s.stamps.items time
+  pub drawn : HasDrawnFirst tickets s.stamps.items [] time
+  pub left : time.left + boot_tickets m ≡ most_tickets
   pub sched_offset : s.sched_offset ≡ sched_offset_of m s.stamps.items
   pub gtod_offset : s.gtod_offset ≡ gtod_offset_of s.stamps.items
 
 -- ---- the boot
 
-pub record IsBooted (m : Plan) (b : Booted) : Type 0 where
+-- all that it leaves but the tickets
+pub record HasBooted (m : Plan) (b : Booted) : Type 0 where
   pub limits : IsWithinLimits m
   pub machine : b.machine ≡ m
   pub total : b.tickets.total ≡ most_tickets
   pub epoch : b.epoch ≡ record_zero m
   pub stamps : AreStamps m b.stamps.items
-  pub drawn : HasDrawnFirst m b.tickets b.stamps.items b.time
   pub sched_offset : b.sched_offset ≡ sched_offset_of m b.stamps.items
   pub gtod_offset : b.gtod_offset ≡ gtod_offset_of b.stamps.items
+
+-- and its own are drawn
+pub record IsBooted (m : Plan) (b : Booted) : Type 0 where
+  pub boot : HasBooted m b
+  pub drawn : HasDrawnFirst b.tickets b.stamps.items [] b.time
+  pub left : b.time.left + boot_tickets m ≡ most_tickets
+
+-- and so are those of this bring-up after them; those of all scripts are left
+pub record IsBootedFor (m : Plan) (up : BroughtUp) (b : Booted) : Type 0 where
+  pub boot : HasBooted m b
+  pub drawn : HasDrawnFirst b.tickets b.stamps.items up.cpus.items b.time
+  pub left : word_tickets m ≤ b.time.left

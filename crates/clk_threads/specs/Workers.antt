@@ -2,6 +2,7 @@
 use Rattle.std.specs.Prelude.{◌≡◌, ℕ, ◌<◌, ℤ, pos, List, [], ◌∷◌, ◌++◌, length, slice_index_or, Some}
 use Rattle.clk_base.specs.Walk.{EachFrom}
 use Rattle.clk_num.specs.Listed.{Listed}
+use Rattle.clk_machine.specs.Plan.{Plan, thread_at}
 use Rattle.clk_trace.specs.declared.event.Event.{Event}
 use Rattle.clk_worker.specs.declared.shared.Shared.{Shared}
 use Rattle.clk_worker.specs.declared.own.Post.{Post}
@@ -11,43 +12,48 @@ use Rattle.clk_threads.specs.declared.workers.Seats.{Seats}
 
 -- there are seats and a list for each of n threads
 pub record HaveSeats (n : ℕ) (s : Seats) : Type 0 where
-  pub owners : length s.owners.items ≡ n
+  pub seats : length s.seats.items ≡ n
   pub latches : length s.latches.items ≡ n
   pub times : length s.times.items ≡ n
   pub events : length s.events.items ≡ n
 
--- where a CPU's own thread stands; no counter is adjusted
-abbrev pub post_of : ℤ → ℕ → Post
-post_of sched_offset cpu = record { thread = cpu; cpu = cpu; adjust = pos 0; sched_offset = sched_offset }
+-- where a thread stands, by what is added to the counter of each CPU
+abbrev pub post_of : Plan → List ℤ → ℤ → ℕ → Post
+post_of m adjusts sched_offset thread = record {
+  thread = thread;
+  cpu = (thread_at m thread).0;
+  adjust = slice_index_or adjusts (thread_at m thread).0 (pos 0);
+  sched_offset = sched_offset;
+}
 
 -- a worker that has made no word
 abbrev pub fresh_hand : Post → Own → Listed Event → Hand
 fresh_hand p o events = record { post = p; next = 0; own = Some o; events = events }
 
 -- the worker of the last thread, whose seats are gone
-pub record IsOfLast (sched_offset : ℤ) (before after : Seats) (h : Hand) : Type 0 where
+pub record IsOfLast (m : Plan) (adjusts : List ℤ) (sched_offset : ℤ) (before after : Seats) (h : Hand) : Type 0 where
   pub own : Own
   pub list : Listed Event
-  pub owners : after.owners.items ++ own.seat ∷ [] ≡ before.owners.items
+  pub seats : after.seats.items ++ own.seat ∷ [] ≡ before.seats.items
   pub latches : after.latches.items ++ own.latch_seat ∷ [] ≡ before.latches.items
   pub times : after.times.items ++ own.time ∷ [] ≡ before.times.items
   pub events : after.events.items ++ list ∷ [] ≡ before.events.items
-  pub hand : h ≡ fresh_hand (post_of sched_offset (length after.owners.items)) own list
+  pub hand : h ≡ fresh_hand (post_of m adjusts sched_offset (length after.seats.items)) own list
 
--- the worker of the thread with this CPU's number
-pub record IsOfSeats (sched_offset : ℤ) (s : Seats) (cpu : ℕ) (h : Hand) : Type 0 where
+-- the worker of the thread with this number
+pub record IsOfSeats (m : Plan) (adjusts : List ℤ) (sched_offset : ℤ) (s : Seats) (thread : ℕ) (h : Hand) : Type 0 where
   pub own : Own
   pub list : Listed Event
-  pub seat : own.seat ≡ slice_index_or s.owners.items cpu own.seat
-  pub latch_seat : own.latch_seat ≡ slice_index_or s.latches.items cpu own.latch_seat
-  pub time : own.time ≡ slice_index_or s.times.items cpu own.time
-  pub events : list ≡ slice_index_or s.events.items cpu list
-  pub hand : h ≡ fresh_hand (post_of sched_offset cpu) own list
+  pub seat : own.seat ≡ slice_index_or s.seats.items thread own.seat
+  pub latch_seat : own.latch_seat ≡ slice_index_or s.latches.items thread own.latch_seat
+  pub time : own.time ≡ slice_index_or s.times.items thread own.time
+  pub events : list ≡ slice_index_or s.events.items thread list
+  pub hand : h ≡ fresh_hand (post_of m adjusts sched_offset thread) own list
 
 -- those of all threads, in order
-pub record AreOfSeats (sched_offset : ℤ) (s : Seats) (hands : List Hand) : Type 0 where
-  pub count : length hands ≡ length s.owners.items
-  pub each : EachFrom (IsOfSeats sched_offset s) 0 hands
+pub record AreOfSeats (m : Plan) (adjusts : List ℤ) (sched_offset : ℤ) (s : Seats) (hands : List Hand) : Type 0 where
+  pub count : length hands ≡ length s.seats.items
+  pub each : EachFrom (IsOfSeats m adjusts sched_offset s) 0 hands
 
 -- ---- the run
 

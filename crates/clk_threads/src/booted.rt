@@ -6,11 +6,11 @@ ghost use Rattle.clk_ticket.specs.Time.{fresh};
 ghost use Rattle.clk_latch.specs.Epoch.{owner_of};
 ghost use Rattle.clk_threads.specs.Booting.{HasEpoch, MayStamp, HasStamped, HasStarted, IsBooted};
 
+use clk_demote::StableStamp;
 use clk_latch::{Epochs, Latch, LatchSeat};
 use clk_machine::{CpuCounter, Machine, Published};
 use clk_num::List;
 use clk_ticket::{TicketTable, TimeSeat};
-use clk_trace::StableStamp;
 use std::alloc::{AllocError, Global};
 
 /// The tickets of a run: the most that a machine may need.

@@ -1,11 +1,10 @@
 //! The lists that a run fills.
-ghost use Rattle.std.specs.Prelude.{◌≡◌, ◌+◌, ◌≤◌, ◌*◌, IfOk, [], length, map};
-ghost use Rattle.clk_base.specs.Walk.{EachFrom};
+ghost use Rattle.std.specs.Prelude.{◌≡◌, ◌+◌, ◌<◌, ◌≤◌, ◌*◌, IfOk, [], length, map};
 ghost use Rattle.clk_machine.specs.Plan.{threads_of, cpu_count};
-ghost use Rattle.clk_trace.specs.LawfulTrace.{IsUntested};
-ghost use Rattle.clk_threads.specs.Preparing.{no_events, steps_room, histories_below, AreLists};
+ghost use Rattle.clk_threads.specs.Preparing.{no_events, steps_room, histories_below, adjusts_of, AreLists};
 
-use clk_adjust::{CpuUp, UpOutcome};
+use clk_adjust::BroughtUp;
+use clk_latch::LatchSeat;
 use clk_machine::Machine;
 use clk_num::List;
 use clk_trace::{Event, HistoryStep};
@@ -26,17 +25,22 @@ pub struct Lists {
     pub threads: List<List<Event>>,
     /// The history of each clock word: empty, with room for the steps of all threads.
     pub histories: List<List<HistoryStep>>,
-    /// The bring-up of each CPU from 1: none was tested.
-    pub ups: List<CpuUp>,
-    /// What is added to the counter of each CPU, in cycles: nothing.
+    /// What is added to the counter of each CPU, in cycles: what its bring-up found.
     pub adjusts: List<i64>,
+    /// Empty, with room for the latch seat of each thread.
+    pub latches: List<LatchSeat>,
     /// Empty, with room for a worker of each thread.
     pub workers: List<Worker>,
 }
 
-/// The lists of a run of this machine. The error is want of memory.
-pub(crate) fn make_lists(alloc: Global, machine: &Machine) -> Result<Lists, AllocError>
-    ensures { IfOk result (AreLists machine.now) }
+/// The lists of a run of this machine after this bring-up. The error is want of memory.
+pub(crate) fn make_lists(
+    alloc: Global,
+    machine: &Machine,
+    up: &BroughtUp,
+) -> Result<Lists, AllocError>
+    requires { length up.now.cpus.items + 1 ≡ cpu_count machine.now }
+    ensures { IfOk result (AreLists machine.now up.now.cpus.items) }
 {
     let threads = machine.threads() as usize;
     let cpus = machine.cpus() as usize;
@@ -45,35 +49,28 @@ pub(crate) fn make_lists(alloc: Global, machine: &Machine) -> Result<Lists, Allo
     fill_events(alloc, machine, &mut events)?;
     let mut histories = List::with_room(alloc, cpus)?;
     fill_histories(alloc, machine, &mut histories)?;
-    let mut ups = List::with_room(alloc, cpus)?;
-    list_ups(alloc, machine.cpus(), &mut ups)?;
+    let adjusts = list_adjusts(up, List::with_room(alloc, cpus)?);
     Ok(Lists {
         cpu_of,
         events,
         threads: List::with_room(alloc, threads)?,
         histories,
-        ups,
-        adjusts: List::from_vec(vec![in alloc; 0i64; cpus]?),
+        adjusts,
+        latches: List::with_room(alloc, threads)?,
         workers: List::with_room(alloc, threads)?,
     })
 }
 
-fn list_ups(alloc: Global, cpus: u32, ups: &mut List<CpuUp>) -> Result<(), AllocError>
-    requires some { 1 ≤ cpus }
-    requires empty { ups.old.items ≡ [] }
-    requires room { cpus ≤ ups.old.room }
-    ensures count { IfOk result (λ _. length ups.new.items + 1 ≡ cpus) }
-    ensures each { IfOk result (λ _. EachFrom IsUntested 1 ups.new.items) }
+fn list_adjusts(up: &BroughtUp, mut adjusts: List<i64>) -> List<i64>
+    requires empty { adjusts.items ≡ [] }
+    requires room { length up.now.cpus.items < adjusts.room }
+    ensures { result.items ≡ adjusts_of up.now.cpus.items }
 {
-    for cpu in 1..cpus {
-        ups.push(CpuUp {
-            cpu,
-            runs: List::with_room(alloc, 0)?,
-            adjust: 0,
-            outcome: UpOutcome::Untested,
-        });
+    adjusts.push(0);
+    for entry in 0..up.cpus.len() {
+        adjusts.push(up.cpus.get(entry).adjust);
     }
-    Ok(())
+    adjusts
 }
 
 fn list_cpus(machine: &Machine, mut cpu_of: List<u32>) -> List<u32>

@@ -1,29 +1,28 @@
-//! The clock words of a run, and their owners' seats.
-ghost use Rattle.std.specs.Prelude.{◌≡◌, ◌<◌, ◌≤◌, [], IfOk, if◌then◌else◌};
-ghost use Rattle.clk_machine.specs.Plan.{cpu_count};
+//! The clock words of a run, and the seats of its threads there.
+ghost use Rattle.std.specs.Prelude.{◌≡◌, ◌<◌, ◌≤◌, [], IfOk, length, if◌then◌else◌};
+ghost use Rattle.clk_machine.specs.Plan.{cpu_count, threads_of};
 ghost use Rattle.clk_machine.specs.Limits.{IsWithinLimits};
-ghost use Rattle.clk_words.specs.Held.{place_of};
 ghost use Rattle.clk_words.specs.Views.{first_view};
 ghost use Rattle.clk_words.specs.declared.opening.Mode.TheVariants.{Stable as StableMode, PerCpu as PerCpuMode};
 ghost use Rattle.clk_threads.specs.Booting.{AreStamps, gtod_offset_of, opening_of};
-ghost use Rattle.clk_threads.specs.Preparing.{gave, owner_seats, HasOpened};
+ghost use Rattle.clk_threads.specs.Preparing.{kind_on, gave, thread_seats, HasOpened};
 
+use clk_demote::StableStamp;
 use clk_machine::Machine;
 use clk_num::List;
-use clk_trace::StableStamp;
 use clk_words::{Mode, Opening, Seat, SeatKind, Words};
 use std::alloc::{AllocError, Global};
 
-/// The clock words of a run, the seat of each CPU's owner, and the first seat, which gave them.
+/// The clock words of a run, the seat of each thread, in order, and the first seat, which gave them.
 #[derive(Drop)]
 pub struct Opened {
     pub words: Words,
-    pub owners: List<Seat>,
+    pub seats: List<Seat>,
     pub first: Seat,
 }
 
-/// Opens the clock words by the last stamp of the boot, and splits a seat off for the owner of each CPU, in order. The error
-/// is want of memory.
+/// Opens the clock words by the last stamp of the boot, and splits a seat off for each thread, in order. The error is want of
+/// memory.
 pub(crate) fn open_words(
     alloc: Global,
     machine: &Machine,
@@ -35,13 +34,13 @@ pub(crate) fn open_words(
     ensures { IfOk result (HasOpened machine.now stamps.now) }
 {
     let cpus = machine.cpus();
-    let owners = List::with_room(alloc, cpus as usize)?;
+    let seats = List::with_room(alloc, machine.threads() as usize)?;
     let opening = opening_by(machine, stamps, gtod_offset);
     let (words, mut first) = Words::new(alloc, cpus, machine.tick(), opening)?;
-    let owners = split_owners(&words, &mut first, cpus, owners);
+    let seats = split_seats(machine, &words, &mut first, seats);
     Ok(Opened {
         words,
-        owners,
+        seats,
         first,
     })
 }
@@ -72,18 +71,38 @@ fn first_mode(machine: &Machine) -> Mode
     }
 }
 
-/// Splits the owner's seat of each CPU off the first seat: CPU `c` gets number `c + 1`.
-fn split_owners(words: &Words, first: &mut Seat, cpus: u32, mut owners: List<Seat>) -> List<Seat>
+/// Splits the seat of each thread off the first seat: thread `k` gets number `k + 1`.
+fn split_seats(
+    machine: &Machine,
+    words: &Words,
+    first: &mut Seat,
+    mut seats: List<Seat>,
+) -> List<Seat>
+    requires limits { IsWithinLimits machine.now }
     requires first { first.old ≡ record { table = words.now.table; view = first_view words.now.start } }
-    requires cpus { cpus ≡ words.now.start.cpus }
-    requires few { cpus ≤ 64 }
-    requires owners { owners.items ≡ [] }
-    requires room { cpus ≤ owners.room }
-    ensures first { first.new ≡ record { table = words.now.table; view = gave cpus (first_view words.now.start) } }
-    ensures owners { result.items ≡ owner_seats words.now cpus }
+    requires cpus { words.now.start.cpus ≡ cpu_count machine.now }
+    requires seats { seats.items ≡ [] }
+    requires room { length (threads_of machine.now) ≤ seats.room }
+    ensures first { first.new ≡ record {
+      table = words.now.table;
+      view = gave machine.now (length (threads_of machine.now)) (first_view words.now.start);
+    } }
+    ensures seats { result.items ≡ thread_seats machine.now words.now (length (threads_of machine.now)) }
 {
-    for cpu in 0..cpus {
-        owners.push(words.split(first, SeatKind::Owner(cpu)));
+    for thread in 0..machine.threads() {
+        seats.push(words.split(first, kind_of(machine, thread)));
     }
-    owners
+    seats
+}
+
+/// The kind of a thread's seat: a CPU's own thread is its owner, and any other reads there.
+fn kind_of(machine: &Machine, thread: u32) -> SeatKind
+    requires { thread < length (threads_of machine.now) }
+    ensures { result ≡ kind_on machine.now thread }
+{
+    if thread < machine.cpus() {
+        SeatKind::Owner(thread)
+    } else {
+        SeatKind::Reader(machine.cpu_of(thread))
+    }
 }

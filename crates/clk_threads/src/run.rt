@@ -1,5 +1,5 @@
 //! A whole run: each thread makes its script on a thread of its own, and the tables answer at its end.
-ghost use Rattle.std.specs.Prelude.{◌≡◌, ◌^◌, ◌<◌, false};
+ghost use Rattle.std.specs.Prelude.{◌≡◌, false};
 ghost use Rattle.clk_words.specs.Bounds.{opens_of};
 ghost use Rattle.clk_trace.specs.LawfulTrace.{IsLawful};
 ghost use Rattle.clk_threads.specs.Booting.{AreStamps, gtod_offset_of, opening_of};
@@ -7,16 +7,18 @@ ghost use Rattle.clk_threads.specs.Preparing.{IsPrepared};
 ghost use Rattle.clk_threads.specs.Finishing.{ShowsHistory};
 ghost use Rattle.clk_threads.specs.Ending.{IsOpened, MayGather, HasGathered, MayClose, HasClosed};
 
+use crate::latches::join_latches;
 use crate::opened::opening_by;
 use crate::prepared::Prepared;
 use crate::workers::{Seats, make_workers, run_workers};
-use clk_adjust::BroughtUp;
+use clk_demote::StableStamp;
+use clk_latch::LatchSeat;
 use clk_machine::{Gate, Machine};
 use clk_num::List;
-use clk_ticket::{TicketTable, TimeSeat};
-use clk_trace::{Event, StableStamp, Trace, histories};
-use clk_words::{Closed, Mode, Seat, Words};
-use clk_worker::{Own, Shared, Worker};
+use clk_ticket::TimeSeat;
+use clk_trace::{Event, Trace, histories};
+use clk_words::{Closed, Mode, Seat};
+use clk_worker::{Shared, Worker};
 use std::thread::Threads;
 
 /// What a run leaves: its trace, and the clock words at their end.
@@ -26,12 +28,12 @@ pub struct Finished {
     pub closed: Closed,
 }
 
-/// Runs a machine that was prepared, each thread of its CPUs on a thread of its own, and answers the trace, which is lawful,
-/// with the words at their end, whose history the trace shows. Each word of a script passes the gate first, which may hold
-/// it there. It takes no memory, and waits for nothing but the gate and the threads' ends. Where the system can make no
-/// thread the scripts run one after another, so a gate that waits for another thread may hold the run for ever.
+/// Runs a machine that was prepared, each CPU's own thread and each reader on a thread of its own, and answers the trace,
+/// which is lawful, with the words at their end, whose history the trace shows. Each word of a script passes the gate first,
+/// which may hold it there. It takes no memory, and waits for nothing but the gate and the threads' ends. Where the system can
+/// make no thread the scripts run one after another, so a gate that waits for another thread may hold the run for ever.
 ///
-/// The clock is per-CPU from the start.
+/// The trace shows the bring-up too. The clock is per-CPU from the start.
 pub fn run_cpus<R: Threads + Sync, G: Gate + Sync>(rt: &R, prepared: Prepared, gate: &G) -> Finished
     requires prepared { IsPrepared prepared.machine prepared }
     requires percpu { prepared.machine.stable ≡ false }
@@ -43,6 +45,7 @@ pub fn run_cpus<R: Threads + Sync, G: Gate + Sync>(rt: &R, prepared: Prepared, g
         workers,
         first,
         time,
+        latches,
         trace,
     } = open_run(prepared);
     let workers = run_workers(rt, &shared, workers, gate);
@@ -51,6 +54,7 @@ pub fn run_cpus<R: Threads + Sync, G: Gate + Sync>(rt: &R, prepared: Prepared, g
         workers,
         first,
         time,
+        latches,
         trace,
     })
 }
@@ -63,11 +67,13 @@ struct RunParts {
     /// The seat at the clock words that gave the workers theirs, and the one that has the rest of the tickets.
     first: Seat,
     time: TimeSeat,
+    /// Empty, with room for the workers' seats at the latches.
+    latches: List<LatchSeat>,
     /// The trace, without the events of the threads and without the histories.
     trace: Trace,
 }
 
-/// Makes the workers from the seats, and begins the trace with what the boot left.
+/// Makes the workers from the seats, and begins the trace with what the boot and the bring-up left.
 fn open_run(prepared: Prepared) -> RunParts
     requires prepared { IsPrepared prepared.machine prepared }
     requires percpu { prepared.machine.stable ≡ false }
@@ -85,15 +91,17 @@ fn open_run(prepared: Prepared) -> RunParts
         stamps,
         sched_offset,
         gtod_offset,
+        up,
     } = prepared;
     let start_word = start_word(&machine, stamps.items(), gtod_offset);
     let seats = Seats {
-        owners: opened.owners,
+        seats: opened.seats,
         latches: latches.seats,
         times,
         events: lists.events,
     };
-    let workers = make_workers(seats, sched_offset, lists.workers);
+    let adjusts = lists.adjusts;
+    let workers = make_workers(&machine, &adjusts, seats, sched_offset, lists.workers);
     let trace = Trace {
         epoch_ticket: epoch.ticket,
         epoch_cyc: epoch.cyc,
@@ -101,10 +109,7 @@ fn open_run(prepared: Prepared) -> RunParts
         starts: Mode::PerCpu,
         sched_offset,
         gtod_offset,
-        ups: BroughtUp {
-            cpus: lists.ups,
-            failed: false,
-        },
+        ups: up,
         start_word,
         cpu_of: lists.cpu_of,
         threads: lists.threads,
@@ -114,7 +119,7 @@ fn open_run(prepared: Prepared) -> RunParts
     let shared = Shared {
         words: opened.words,
         epochs: latches.epochs,
-        adjusts: lists.adjusts,
+        adjusts,
         tickets,
         machine,
     };
@@ -123,6 +128,7 @@ fn open_run(prepared: Prepared) -> RunParts
         workers,
         first: opened.first,
         time,
+        latches: lists.latches,
         trace,
     }
 }
@@ -137,8 +143,8 @@ fn start_word(machine: &Machine, stamps: &[StableStamp], gtod_offset: i64) -> i6
     opening.tick_gtod.wrapping_add(opening.offset)
 }
 
-/// Takes the workers apart and joins their seats with the first ones, asks the tables for the words' history and for how many
-/// tickets were drawn, and finds the histories of the trace.
+/// Takes the workers apart, joins their seats with the first ones and those of readers at the latches with the owners', asks
+/// the tables for the words' history and for how many tickets were drawn, and finds the histories of the trace.
 fn close_run(parts: RunParts) -> Finished
     requires { MayClose parts }
     ensures { HasClosed parts result }
@@ -148,16 +154,18 @@ fn close_run(parts: RunParts) -> Finished
         workers,
         first,
         time,
+        mut latches,
         mut trace,
     } = parts;
     let (first, time) = gather(
-        &shared.words,
-        &shared.tickets,
+        &shared,
         workers,
         first,
         time,
         &mut trace.threads,
+        &mut latches,
     );
+    join_latches(&shared, latches);
     trace.tickets = shared.tickets.finish(time);
     histories(&mut trace);
     Finished {
@@ -166,28 +174,24 @@ fn close_run(parts: RunParts) -> Finished
     }
 }
 
-/// Joins the seats of all workers with these two, and keeps the events of each thread, in order.
+/// Joins the seats of all workers with these two, and keeps the events and the latch seat of each thread, in order.
 fn gather(
-    words: &Words,
-    tickets: &TicketTable,
+    shared: &Shared,
     workers: List<Worker>,
     mut first: Seat,
     mut time: TimeSeat,
     threads: &mut List<List<Event>>,
+    latches: &mut List<LatchSeat>,
 ) -> (Seat, TimeSeat)
-    requires { MayGather words.now tickets.now workers.items first time threads.old }
-    ensures { HasGathered words.now tickets.now workers.items first time threads.old result.0 result.1 threads.new }
+    requires { MayGather shared.now workers.items first time threads.old latches.old }
+    ensures { HasGathered shared.now workers.items first time threads.old latches.old result.0 result.1 threads.new latches.new }
 {
     for worker in workers.into_vec() {
         let (own, events) = worker.into_parts();
-        let Own {
-            seat,
-            latch_seat: _,
-            time: drawn,
-        } = own;
-        first = words.join(first, seat);
-        time = tickets.join(time, drawn);
+        first = shared.words.join(first, own.seat);
+        time = shared.tickets.join(time, own.time);
         threads.push(events);
+        latches.push(own.latch_seat);
     }
     (first, time)
 }

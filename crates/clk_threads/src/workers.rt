@@ -1,10 +1,12 @@
 //! The workers of a run: made from the seats that were prepared, and run side by side.
-ghost use Rattle.std.specs.Prelude.{◌≡◌, ◌^◌, ◌<◌, ◌≤◌, All, [], length};
+ghost use Rattle.std.specs.Prelude.{◌≡◌, ◌<◌, ◌≤◌, All, [], length};
+ghost use Rattle.clk_machine.specs.Plan.{cpu_count, threads_of};
+ghost use Rattle.clk_machine.specs.Limits.{IsWithinLimits};
 ghost use Rattle.clk_worker.specs.Making.{BelongsTo};
 ghost use Rattle.clk_threads.specs.Workers.{HaveSeats, IsOfLast, AreOfSeats, HasRun, HaveRun};
 
 use clk_latch::LatchSeat;
-use clk_machine::Gate;
+use clk_machine::{Gate, Machine};
 use clk_num::List;
 use clk_ticket::TimeSeat;
 use clk_trace::Event;
@@ -12,10 +14,10 @@ use clk_words::Seat;
 use clk_worker::{Own, Post, Shared, Worker};
 use std::thread::{Threads, for_each_mut};
 
-/// What the threads of the CPUs begin with, in order: their seats, and their lists of events.
+/// What the threads begin with, in order: their seats, and their lists of events.
 #[derive(Drop)]
 pub(crate) struct Seats {
-    pub(crate) owners: List<Seat>,
+    pub(crate) seats: List<Seat>,
     pub(crate) latches: List<LatchSeat>,
     pub(crate) times: List<TimeSeat>,
     pub(crate) events: List<List<Event>>,
@@ -23,21 +25,24 @@ pub(crate) struct Seats {
 
 impl Seats {
     /// The worker of the last thread that has its seats here.
-    fn pop(&mut self, sched_offset: i64) -> Worker
-        requires there { 0 < length self.old.owners.items }
-        requires few { length self.old.owners.items < 2 ^ 32 }
-        requires seats { HaveSeats (length self.old.owners.items) self.old }
-        ensures { IsOfLast sched_offset self.old self.new result }
+    fn pop(&mut self, machine: &Machine, adjusts: &List<i64>, sched_offset: i64) -> Worker
+        requires limits { IsWithinLimits machine.now }
+        requires adjusts { length adjusts.now.items ≡ cpu_count machine.now }
+        requires there { 0 < length self.old.seats.items }
+        requires few { length self.old.seats.items ≤ length (threads_of machine.now) }
+        requires seats { HaveSeats (length self.old.seats.items) self.old }
+        ensures { IsOfLast machine.now adjusts.now.items sched_offset self.old self.new result }
     {
-        let thread = self.owners.len() as u32 - 1;
+        let thread = self.seats.len() as u32 - 1;
+        let cpu = machine.cpu_of(thread);
         let post = Post {
             thread,
-            cpu: thread,
-            adjust: 0,
+            cpu,
+            adjust: *adjusts.get(cpu as usize),
             sched_offset,
         };
         let own = Own {
-            seat: self.owners.pop(),
+            seat: self.seats.pop(),
             latch_seat: self.latches.pop(),
             time: self.times.pop(),
         };
@@ -47,18 +52,22 @@ impl Seats {
 
 /// A worker of each thread, in order. The seats are taken from the last one on, and so the list is turned round.
 pub(crate) fn make_workers(
+    machine: &Machine,
+    adjusts: &List<i64>,
     mut seats: Seats,
     sched_offset: i64,
     mut workers: List<Worker>,
 ) -> List<Worker>
-    requires few { length seats.owners.items < 2 ^ 32 }
-    requires seats { HaveSeats (length seats.owners.items) seats }
+    requires limits { IsWithinLimits machine.now }
+    requires adjusts { length adjusts.now.items ≡ cpu_count machine.now }
+    requires count { length seats.seats.items ≡ length (threads_of machine.now) }
+    requires seats { HaveSeats (length seats.seats.items) seats }
     requires empty { workers.items ≡ [] }
-    requires room { length seats.owners.items ≤ workers.room }
-    ensures { AreOfSeats sched_offset seats result.items }
+    requires room { length (threads_of machine.now) ≤ workers.room }
+    ensures { AreOfSeats machine.now adjusts.now.items sched_offset seats result.items }
 {
-    for _ in 0..seats.owners.len() {
-        workers.push(seats.pop(sched_offset));
+    for _ in 0..machine.threads() {
+        workers.push(seats.pop(machine, adjusts, sched_offset));
     }
     let mut in_order = workers.into_vec();
     in_order.reverse();

@@ -48,10 +48,10 @@ done_or_memory (Refused r) is no_fault = absurd is
 done_or_memory WriteFault is no_fault = absurd (no_fault refl)
 done_or_memory Memory is no_fault = inr refl
 
-pub memory_alone : (s : Status) → IsOfFile s → ¬ (s ≡ ReadFault) → ((r : Refusal) → ¬ (s ≡ Refused r)) → (s ≡ Done) ⊎ (s ≡ Memory)
-memory_alone Done is no_fault no_refusal = inl refl
+pub memory_alone : (s : Status) → IsOfFile s → ¬ (s ≡ ReadFault) → ((r : Refusal) → ¬ (s ≡ Refused r)) → s ≡ Memory
+memory_alone Done is no_fault no_refusal = absurd is
 memory_alone Usage is no_fault no_refusal = absurd is
 memory_alone ReadFault is no_fault no_refusal = absurd (no_fault refl)
 memory_alone (Refused r) is no_fault no_refusal = absurd (no_refusal r refl)
 memory_alone WriteFault is no_fault no_refusal = absurd is
-memory_alone Memory is no_fault no_refusal = inr refl
+memory_alone Memory is no_fault no_refusal = refl

@@ -1,12 +1,7 @@
 pub mod Answers
 pub mod Built
-pub mod Booting
-pub mod Finishing
 pub mod Commands
 pub mod Ends
-pub mod Making
 pub mod Rate
 pub mod Failures
-pub mod Room
-pub mod Running
 pub mod Whole

@@ -8,10 +8,5 @@ use clk_machine::Machine;
 pub(crate) fn is_built(machine: &Machine) -> bool
     ensures { result ≡ is_built machine.now }
 {
-    machine.cpus() == 1
-        && machine.readers() == 0
-        && (machine.bring_up().is_none()
-            && machine.watchdog().is_none()
-            && machine.sources() == 0
-            && !machine.starts_stable())
+    machine.watchdog().is_none() && machine.sources() == 0 && !machine.starts_stable()
 }

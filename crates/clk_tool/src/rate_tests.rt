@@ -7,10 +7,16 @@ use crate::tool::clock_tool;
 use clk_machine::OpenGate;
 use clk_num::List;
 use std::alloc::{AllocError, Global};
+use std::sync::Wait;
 use std::test::Fail;
+use std::thread::Threads;
 
 // Runs the program with these words over a source of no bytes, and answers its status and what it wrote.
-fn run(alloc: Global, line: &str) -> Result<(Status, Vec<u8>), AllocError> {
+fn run<R: Wait + Threads + Sync>(
+    rt: &R,
+    alloc: Global,
+    line: &str,
+) -> Result<(Status, Vec<u8>), AllocError> {
     let mut words = Vec::new(alloc);
     for word in line.split_whitespace() {
         words.push(String::from_str(alloc, word)?)?;
@@ -18,7 +24,7 @@ fn run(alloc: Global, line: &str) -> Result<(Status, Vec<u8>), AllocError> {
     let mut source = MemSource::new(List::with_room(alloc, 0)?, 64, List::with_room(alloc, 0)?);
     let mut sink = SureSink::new(List::with_room(alloc, 100)?);
     let status = clock_tool(
-        &(),
+        rt,
         alloc,
         words.as_slice(),
         &mut source,
@@ -48,7 +54,7 @@ const RATES: [(&str, &str); 4] = [
 #[test]
 fn rates_are_those_of_the_worked_rows(rt: HostRuntime) -> Result<(), Fail> {
     for (line, want) in RATES {
-        let (status, written) = run(rt.alloc(), line)?;
+        let (status, written) = run(&rt, rt.alloc(), line)?;
         assert_eq!(rt; status, Status::Done, "at {line}");
         assert_eq!(rt; written.as_slice(), want.as_bytes(), "at {line}");
     }
@@ -78,7 +84,7 @@ const LINES: [(&str, Status); 16] = [
 #[test]
 fn words_beside_the_forms_are_usage(rt: HostRuntime) -> Result<(), Fail> {
     for (line, want) in LINES {
-        let (status, written) = run(rt.alloc(), line)?;
+        let (status, written) = run(&rt, rt.alloc(), line)?;
         assert_eq!(rt; status, want, "at {line}");
         assert_eq!(rt; written.is_empty(), want == Status::Usage, "at {line}");
     }

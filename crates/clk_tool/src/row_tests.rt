@@ -6,8 +6,10 @@ use crate::tool::clock_tool;
 use clk_machine::{Gate, OpenGate, Place};
 use clk_num::List;
 use std::alloc::{AllocError, Global};
-use std::cell::RefCell;
+use std::sync::Wait;
+use std::sync::atomic::{AtomicU64, Ordering};
 use std::test::Fail;
+use std::thread::Threads;
 
 // The lines that every trace with step 10 begins with.
 const HEAD: &str =
@@ -39,16 +41,22 @@ fn words(alloc: Global, line: &str) -> Result<Vec<String>, AllocError> {
 }
 
 // Runs the program over memory, and answers its status and what it wrote.
-fn run<G: Gate>(alloc: Global, text: &str, gate: &G) -> Result<(Status, Vec<u8>), AllocError> {
+pub(crate) fn run<R: Wait + Threads + Sync, G: Gate + Sync>(
+    rt: &R,
+    alloc: Global,
+    text: &str,
+    gate: &G,
+) -> Result<(Status, Vec<u8>), AllocError> {
     let mut source = SureSource::new(bytes_of(alloc, text)?);
     let mut sink = SureSink::new(List::with_room(alloc, 4_000_000)?);
     let words = words(alloc, "run")?;
-    let status = clock_tool(&(), alloc, words.as_slice(), &mut source, &mut sink, gate);
+    let status = clock_tool(rt, alloc, words.as_slice(), &mut source, &mut sink, gate);
     Ok((status, Vec::from_slice(alloc, sink.bytes().items())?))
 }
 
 // The same, of a file of one CPU at 1 GHz.
-fn run_file(
+fn run_file<R: Wait + Threads + Sync>(
+    rt: &R,
     alloc: Global,
     version: &str,
     step: &str,
@@ -56,12 +64,16 @@ fn run_file(
     script: &str,
 ) -> Result<(Status, Vec<u8>), AllocError> {
     let text = file(alloc, version, step, tick, script)?;
-    run(alloc, text.as_str(), &OpenGate)
+    run(rt, alloc, text.as_str(), &OpenGate)
 }
 
 // Runs the program over a text that is refused, and answers its status; where it wrote anything, that is `Done`.
-fn refused(alloc: Global, text: &str) -> Result<Status, AllocError> {
-    let (status, written) = run(alloc, text, &OpenGate)?;
+fn refused<R: Wait + Threads + Sync>(
+    rt: &R,
+    alloc: Global,
+    text: &str,
+) -> Result<Status, AllocError> {
+    let (status, written) = run(rt, alloc, text, &OpenGate)?;
     Ok(if written.is_empty() {
         status
     } else {
@@ -70,11 +82,17 @@ fn refused(alloc: Global, text: &str) -> Result<Status, AllocError> {
 }
 
 // The line that the program prints of a file of a version that goes on so; it is empty where anything was written.
-fn line_of(alloc: Global, version: &str, more: &str, rest: &str) -> Result<String, AllocError> {
+fn line_of<R: Wait + Threads + Sync>(
+    rt: &R,
+    alloc: Global,
+    version: &str,
+    more: &str,
+    rest: &str,
+) -> Result<String, AllocError> {
     let text = format!(in alloc;
         "version = {version}\nstep = 10\nnominal_khz = 1000000\nreference.khz = 1000000\n{more}{rest}\n"
     )?;
-    refused(alloc, text.as_str())?.to_string(alloc)
+    refused(rt, alloc, text.as_str())?.to_string(alloc)
 }
 
 // Whether these bytes are one text and then another.
@@ -114,7 +132,7 @@ const TRACES: [(&str, &str); 7] = [
 #[test]
 fn traces_are_those_of_the_worked_runs(rt: HostRuntime) -> Result<(), Fail> {
     for (script, rest) in TRACES {
-        let (status, written) = run_file(rt.alloc(), "1", "10", "1000000", script)?;
+        let (status, written) = run_file(&rt, rt.alloc(), "1", "10", "1000000", script)?;
         assert_eq!(rt; status, Status::Done);
         assert!(rt; is_after(HEAD, rest, written.as_slice()), "at {script}");
     }
@@ -131,7 +149,7 @@ fn a_base_wraps_the_clock(rt: HostRuntime) -> Result<(), Fail> {
         ("2\nbase = 9223372036854775782", "", WRAPPING),
         ("1\nbase = 9223372036854775782", "refused 2 ?", ""),
     ] {
-        let (status, written) = run_file(rt.alloc(), version, "10", "1000000", "\"local\"")?;
+        let (status, written) = run_file(&rt, rt.alloc(), version, "10", "1000000", "\"local\"")?;
         assert_eq!(rt; status.to_string(rt.alloc())?.as_str(), line);
         assert_eq!(rt; written.as_slice(), trace.as_bytes(), "at {version}");
     }
@@ -165,7 +183,8 @@ const COUNTERS: [(&str, &str, &str, &str, &str); 3] = [
 ];
 
 // Runs a file with other numbers.
-fn run_changed(
+fn run_changed<R: Wait + Threads + Sync>(
+    rt: &R,
     alloc: Global,
     khz: &str,
     more: &str,
@@ -175,13 +194,13 @@ fn run_changed(
     let text = format!(in alloc;
         "version = 1\ncpus = 1\nstep = 10\nnominal_khz = {khz}\nstable = false\n{more}\n[reference]\nkhz = 1000000\n[[cpu]]\n{cpu}\nscript = [{script}]\n"
     )?;
-    run(alloc, text.as_str(), &OpenGate)
+    run(rt, alloc, text.as_str(), &OpenGate)
 }
 
 #[test]
 fn counters_are_those_of_the_file(rt: HostRuntime) -> Result<(), Fail> {
     for (khz, more, cpu, script, rest) in COUNTERS {
-        let (status, written) = run_changed(rt.alloc(), khz, more, cpu, script)?;
+        let (status, written) = run_changed(&rt, rt.alloc(), khz, more, cpu, script)?;
         assert_eq!(rt; status, Status::Done);
         assert!(rt;
             is_after("trace 1\nepoch 0 0\n", rest, written.as_slice()),
@@ -191,10 +210,7 @@ fn counters_are_those_of_the_file(rt: HostRuntime) -> Result<(), Fail> {
     Ok(())
 }
 
-const UNBUILT: [&str; 6] = [
-    "cpus = 2\nstable = false\ncpu = [{}, {}]",
-    "cpus = 1\nstable = false\ncpu = [{}]\nreader = [{ cpu = 0 }]",
-    "cpus = 1\nstable = false\ncpu = [{}]\nbringup = { adjust = true, timeout_us = 0, turns = 0 }",
+const UNBUILT: [&str; 3] = [
     "cpus = 1\nstable = false\ncpu = [{}]\nwatchdog = { checks = 0, pause = 1, skew = 0, retries = 0 }",
     "cpus = 1\nstable = false\ncpu = [{}]\nsource = [{ rating = 1, margin = 0, nominal_khz = 1000 }]",
     "cpus = 1\nstable = true\ncpu = [{}]",
@@ -204,9 +220,9 @@ const UNBUILT: [&str; 6] = [
 fn forms_that_are_not_built_are_refused_last(rt: HostRuntime) -> Result<(), Fail> {
     for form in UNBUILT {
         for version in ["1", "2"] {
-            let last = line_of(rt.alloc(), version, "", form)?;
+            let last = line_of(&rt, rt.alloc(), version, "", form)?;
             assert_eq!(rt; last.as_str(), "refused 7");
-            let first = line_of(rt.alloc(), version, "tick = 0\n", form)?;
+            let first = line_of(&rt, rt.alloc(), version, "tick = 0\n", form)?;
             assert_eq!(rt; first.as_str(), "refused 3 tick");
         }
     }
@@ -264,7 +280,7 @@ const LIMITS: [(&str, &str, &str, &str, &str); 13] = [
 #[test]
 fn limits_are_those_of_the_format(rt: HostRuntime) -> Result<(), Fail> {
     for (version, step, tick, script, want) in LIMITS {
-        let (status, mut shown) = run_file(rt.alloc(), version, step, tick, script)?;
+        let (status, mut shown) = run_file(&rt, rt.alloc(), version, step, tick, script)?;
         shown.extend_from_slice(status.to_string(rt.alloc())?.as_bytes())?;
         assert!(rt; shown.as_slice().ends_with(want.as_bytes()), "at {want}");
         assert_eq!(rt;
@@ -293,55 +309,66 @@ fn scripts_have_at_most_65536_words(rt: HostRuntime) -> Result<(), Fail> {
         for _ in 0..count {
             script.push_str("\"local\",")?;
         }
-        let (status, _) = run_file(rt.alloc(), "1", "10", "1000000", script.as_str())?;
+        let (status, _) = run_file(&rt, rt.alloc(), "1", "10", "1000000", script.as_str())?;
         assert_eq!(rt; status, want);
     }
     Ok(())
 }
 
-// Notes what it is given.
+// A gate at which one thread passes four words at most, and which notes what it was given.
 #[derive(Drop)]
 struct NotingGate {
-    notes: RefCell<Vec<(u32, u32, i64)>>,
+    passes: AtomicU64,
+    last: [AtomicU64; 4],
 }
 
-impl Gate for NotingGate {
-    fn pass(&self, thread: u32, op: u32, last: i64) {
-        if let Ok(mut notes) = self.notes.try_borrow_mut() {
-            let _ = notes.push((thread, op, last));
+impl NotingGate {
+    fn new() -> NotingGate {
+        NotingGate {
+            passes: AtomicU64::new(0),
+            last: [0u64; 4].map(|last| AtomicU64::new(last)),
         }
     }
 }
 
-// Runs a file with this script, and answers its status, whether it wrote anything, and what its gate was given.
-fn run_noted(
+impl Gate for NotingGate {
+    fn pass(&self, _thread: u32, op: u32, last: i64) {
+        self.passes.fetch_add(1, Ordering::SeqCst);
+        if let Some(note) = self.last.get(op as usize) {
+            note.store(last.unsigned_abs(), Ordering::SeqCst);
+        }
+    }
+}
+
+// Runs a file with this script over this gate, and answers its status, and whether it wrote anything.
+fn run_noted<R: Wait + Threads + Sync>(
+    rt: &R,
     alloc: Global,
     script: &str,
-) -> Result<(Status, bool, Vec<(u32, u32, i64)>), AllocError> {
-    let gate = NotingGate {
-        notes: RefCell::new(Vec::new(alloc)),
-    };
+    gate: &NotingGate,
+) -> Result<(Status, bool), AllocError> {
     let text = file(alloc, "1", "10", "1000000", script)?;
-    let (status, written) = run(alloc, text.as_str(), &gate)?;
-    let NotingGate { notes } = gate;
-    Ok((status, !written.is_empty(), notes.into_inner()))
+    let (status, written) = run(rt, alloc, text.as_str(), gate)?;
+    Ok((status, !written.is_empty()))
 }
 
 #[test]
 fn the_gate_is_given_the_reading_before_each_word(rt: HostRuntime) -> Result<(), Fail> {
+    let gate = NotingGate::new();
     let script = "\"local\", \"tick\", \"pause 5\", \"local\"";
-    let (status, _, notes) = run_noted(rt.alloc(), script)?;
+    let (status, _) = run_noted(&rt, rt.alloc(), script, &gate)?;
     assert_eq!(rt; status, Status::Done);
-    assert_eq!(rt;
-        notes.as_slice(),
-        [(0, 0, 0), (0, 1, 30), (0, 2, 60), (0, 3, 60)].as_slice()
-    );
+    assert_eq!(rt; gate.passes.load(Ordering::SeqCst), 4);
+    for (note, want) in gate.last.iter().zip([0, 30, 60, 60]) {
+        assert_eq!(rt; note.load(Ordering::SeqCst), want);
+    }
     Ok(())
 }
 
 #[test]
 fn a_refused_file_passes_no_gate(rt: HostRuntime) -> Result<(), Fail> {
-    let (status, wrote, notes) = run_noted(rt.alloc(), "\"local\", \"locl\"")?;
+    let gate = NotingGate::new();
+    let (status, wrote) = run_noted(&rt, rt.alloc(), "\"local\", \"locl\"", &gate)?;
     assert_eq!(rt;
         status,
         Status::Refused(Refusal::Word(Place {
@@ -350,7 +377,7 @@ fn a_refused_file_passes_no_gate(rt: HostRuntime) -> Result<(), Fail> {
             item: 2
         }))
     );
-    assert!(rt; !wrote && notes.is_empty());
+    assert!(rt; !wrote && gate.passes.load(Ordering::SeqCst) == 0);
     Ok(())
 }
 
@@ -420,7 +447,7 @@ const REFUSALS: [(&str, &str, &str); 14] = [
 fn refusals_name_their_place(rt: HostRuntime) -> Result<(), Fail> {
     for (rest, first, second) in REFUSALS {
         for (version, want) in [("1", first), ("2", second)] {
-            let line = line_of(rt.alloc(), version, "stable = false\n", rest)?;
+            let line = line_of(&rt, rt.alloc(), version, "stable = false\n", rest)?;
             assert_eq!(rt; line.as_str(), want, "at {rest}");
         }
     }
@@ -439,15 +466,15 @@ fn what_is_no_toml_or_too_long_is_refused(rt: HostRuntime) -> Result<(), Fail> {
         long.push_str(" ")?;
     }
     assert_eq!(rt;
-        refused(rt.alloc(), long.as_str())?,
+        refused(&rt, rt.alloc(), long.as_str())?,
         Status::Refused(Refusal::TooLong)
     );
     assert_eq!(rt;
-        refused(rt.alloc(), "version = ")?,
+        refused(&rt, rt.alloc(), "version = ")?,
         Status::Refused(Refusal::NotToml)
     );
     assert_eq!(rt;
-        refused(rt.alloc(), "")?,
+        refused(&rt, rt.alloc(), "")?,
         Status::Refused(Refusal::Key(no_version))
     );
     Ok(())
@@ -461,7 +488,7 @@ fn a_fault_of_the_source_writes_nothing(rt: HostRuntime) -> Result<(), Fail> {
     let mut sink = SureSink::new(List::with_room(rt.alloc(), 1000)?);
     let words = words(rt.alloc(), "run")?;
     let status = clock_tool(
-        &(),
+        &rt,
         rt.alloc(),
         words.as_slice(),
         &mut source,
@@ -481,7 +508,7 @@ fn a_fault_of_the_sink_leaves_a_beginning(rt: HostRuntime) -> Result<(), Fail> {
     let mut sink = MemSink::new(List::with_room(rt.alloc(), 1000)?, 16, fails);
     let words = words(rt.alloc(), "run")?;
     let status = clock_tool(
-        &(),
+        &rt,
         rt.alloc(),
         words.as_slice(),
         &mut source,

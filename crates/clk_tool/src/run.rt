@@ -1,178 +1,138 @@
-//! A whole run: the boot, the script of CPU 0, and the trace of what the tables answered.
-ghost use Rattle.std.specs.Prelude.{◌≡◌, ◌*◌, ◌≤◌, true, [], length, IfOk};
+//! The command `run` by its parts: what is read before the CPUs are brought up, and what is run and written after it.
+ghost use Rattle.std.specs.Prelude.{◌≡◌, ◌⊎◌, ◌≤◌, true, None, IfOk, IfErr};
+ghost use Rattle.clk_base.specs.Causes.{Rose, Grew, GrewByPrefix};
+ghost use Rattle.clk_adjust.specs.BroughtUp.{IsBroughtUp};
 ghost use Rattle.clk_trace.specs.LawfulTrace.{IsLawful};
-ghost use Rattle.clk_words.specs.Held.{place_of};
-ghost use Rattle.clk_words.specs.Histories.{opens_at, steps_on, IsChain};
-ghost use Rattle.clk_tool.specs.Booting.{IsBooted};
-ghost use Rattle.clk_tool.specs.Finishing.{MayRun, HasRun, IsFirst, IsSecond, IsRunOf, ShowsHistory};
-ghost use Rattle.clk_tool.specs.Built.{is_built, words_of};
-ghost use Rattle.clk_tool.specs.Room.{HasRoom};
+ghost use Rattle.clk_threads.specs.Booting.{IsBooted, IsBootedFor};
+ghost use Rattle.clk_threads.specs.Finishing.{ShowsHistory};
+ghost use Rattle.clk_tool.specs.Built.{is_built};
+ghost use Rattle.clk_tool.specs.Answers.{CameMachine, Traced, status_of, IsCause, HoldsMachine, IsOfFile, IsOfRun};
 
-use crate::boot::{Boot, Seats, boot_machine};
-use crate::shared::Shared;
-use crate::thread::Thread;
-use clk_adjust::{BroughtUp, CpuUp};
+use crate::built::is_built;
+use crate::source::Source;
+use crate::status::{Refusal, Status};
+use crate::whole::{LIMIT, ReadRefusal, read_whole};
+use clk_adjust::BroughtUp;
+use clk_file::{FileError, read_machine};
 use clk_machine::{Gate, Machine};
-use clk_num::List;
-use clk_trace::{Event, HistoryStep, StableStamp, Trace};
-use clk_words::{Closed, Mode, Seat, Words};
+use clk_threads::{Booted, Finished, boot, prepare, run_cpus};
+use clk_trace::{Sink, WriteFault, write_trace};
 use std::alloc::{AllocError, Global};
+use std::thread::Threads;
 
-/// All memory of a run, taken before it begins.
-#[derive(Drop)]
-pub struct Lists {
-    pub boots: List<StableStamp>,
-    pub ups: List<CpuUp>,
-    pub cpu_of: List<u32>,
-    pub threads: List<List<Event>>,
-    pub histories: List<List<HistoryStep>>,
-    pub events: List<Event>,
-    pub history: List<HistoryStep>,
-}
+/// Reads the source to its end, and boots the machine that its bytes describe. The error is the answer of the program:
+/// `ReadFault`, `Refused` or `Memory`. It waits on nothing, and returns.
+pub fn read_run<S: Source>(alloc: Global, source: &mut S) -> Result<Booted, Status>
+    ensures came { IfOk result (λ booted. CameMachine LIMIT (S.rest source.old) (S.rest source.new) booted.machine) }
+    ensures booted { IfOk result (λ booted. IsBooted booted.machine booted) }
+    ensures read_fault { result ≡ Err Status.ReadFault → Rose (S.faults source.old) (S.faults source.new) }
+    ensures refused { (refusal : Refusal) → result ≡ Err (Status.Refused refusal) →
+        IsCause LIMIT (S.rest source.old) (S.rest source.new) refusal }
+    ensures answers { IfErr result IsOfFile }
+    ensures later { S.faults source.old ≤ S.faults source.new }
 
-impl Lists {
-    /// Room for a script of so many words: each makes at most three events and two steps.
-    fn with_room(alloc: Global, words: usize) -> Result<Lists, AllocError>
-        requires { words ≤ 65536 }
-        ensures { IfOk result (HasRoom words) }
-    {
-        Ok(Lists {
-            boots: List::with_room(alloc, 1)?,
-            ups: List::with_room(alloc, 0)?,
-            cpu_of: List::with_room(alloc, 1)?,
-            threads: List::with_room(alloc, 1)?,
-            histories: List::with_room(alloc, 1)?,
-            events: List::with_room(alloc, 3 * words)?,
-            history: List::with_room(alloc, 2 * words)?,
-        })
+    // Where the source holds a machine and did not fail, only want of memory is left.
+    ensures complete { HoldsMachine LIMIT (S.rest source.old) → ¬ Rose (S.faults source.old) (S.faults source.new) →
+        IfErr result (λ status. status ≡ Status.Memory) }
+{
+    match machine_of(alloc, source) {
+        Ok(machine) => match boot(alloc, machine) {
+            Ok(booted) => Ok(booted),
+            Err(_) => Err(Status::Memory),
+        },
+        Err(status) => Err(status),
     }
 }
 
-/// What a run leaves: its trace, and the clock words at their end.
-#[derive(Drop)]
-pub struct Finished {
-    pub trace: Trace,
-    pub closed: Closed,
+/// The machine that a source describes. The error is the answer of the program.
+fn machine_of<S: Source>(alloc: Global, source: &mut S) -> Result<Machine, Status>
+    ensures ok { IfOk result (CameMachine LIMIT (S.rest source.old) (S.rest source.new)) }
+    ensures read_fault { result ≡ Err Status.ReadFault → Rose (S.faults source.old) (S.faults source.new) }
+    ensures refused { (refusal : Refusal) → result ≡ Err (Status.Refused refusal) →
+        IsCause LIMIT (S.rest source.old) (S.rest source.new) refusal }
+    ensures answers { IfErr result IsOfFile }
+    ensures later { S.faults source.old ≤ S.faults source.new }
+{
+    let bytes = match read_whole(alloc, source) {
+        Ok(bytes) => bytes,
+        Err(ReadRefusal::Fault) => return Err(Status::ReadFault),
+        Err(ReadRefusal::TooLong) => return Err(Status::Refused(Refusal::TooLong)),
+        Err(ReadRefusal::Memory) => return Err(Status::Memory),
+    };
+    match read_machine(alloc, bytes.as_slice()) {
+        Ok(machine) if is_built(&machine) => Ok(machine),
+        Ok(_) => Err(Status::Refused(Refusal::Unbuilt)),
+        Err(error) => Err(status_of(error)),
+    }
 }
 
-/// Runs the script of a machine on this thread, from the boot on, and answers the trace, which is lawful, with the words
-/// at their end, whose history the trace shows. The error is want of memory, and comes before the first word passes the
-/// gate.
-pub fn run_machine<G: Gate>(
+/// The answer where a file is no machine.
+fn status_of(error: FileError) -> Status
+    ensures { result ≡ status_of error }
+{
+    match error {
+        FileError::NotToml => Status::Refused(Refusal::NotToml),
+        FileError::Key(place) => Status::Refused(Refusal::Key(place)),
+        FileError::Value(place) => Status::Refused(Refusal::Value(place)),
+        FileError::Word(place) => Status::Refused(Refusal::Word(place)),
+        FileError::Cpu(place) => Status::Refused(Refusal::Cpu(place)),
+        FileError::Tickets { needed } => Status::Refused(Refusal::Tickets { needed }),
+        FileError::Memory(_) => Status::Memory,
+    }
+}
+
+/// Runs a machine that [`read_run`] booted and whose CPUs were brought up with the tickets of its seat, each script on a
+/// thread of its own, and writes its trace: the text of a lawful trace of the machine. The answer is `Done`, `WriteFault` or
+/// `Memory`. Each script word passes the gate first. It waits on nothing else, and returns.
+pub fn write_run<R: Threads + Sync, K: Sink, G: Gate + Sync>(
+    rt: &R,
     alloc: Global,
-    machine: Machine,
+    booted: Booted,
+    up: BroughtUp,
+    sink: &mut K,
+    gate: &G,
+) -> Status
+    requires built { is_built booted.machine ≡ true }
+    requires booted { IsBootedFor booted.machine up booted }
+    requires up { IsBroughtUp booted.machine None up }
+    ensures done { result ≡ Status.Done →
+        Traced booted.machine (Grew (K.written sink.old) (K.written sink.new)) }
+    ensures write_fault { result ≡ Status.WriteFault → Rose (K.faults sink.old) (K.faults sink.new) }
+    ensures cut { result ≡ Status.WriteFault →
+        Traced booted.machine (GrewByPrefix (K.written sink.old) (K.written sink.new)) }
+    ensures silent { result ≡ Status.Memory → sink.new ≡ sink.old }
+    ensures answers { IsOfRun result }
+    ensures later { K.faults sink.old ≤ K.faults sink.new }
+
+    // Where the sink did not fail, only want of memory is left.
+    ensures complete { ¬ Rose (K.faults sink.old) (K.faults sink.new) →
+        (result ≡ Status.Done) ⊎ (result ≡ Status.Memory) }
+{
+    match run_machine(rt, alloc, booted, up, gate) {
+        Ok(finished) => match write_trace(sink, &finished.trace) {
+            Ok(()) => Status::Done,
+            Err(WriteFault) => Status::WriteFault,
+        },
+        Err(_) => Status::Memory,
+    }
+}
+
+/// Runs the scripts of a machine's threads, each on a thread of its own, and answers the trace, which is lawful, with the
+/// clock words at their end, whose history the trace shows. The error is want of memory, and comes before the first word
+/// passes the gate.
+fn run_machine<R: Threads + Sync, G: Gate + Sync>(
+    rt: &R,
+    alloc: Global,
+    booted: Booted,
+    up: BroughtUp,
     gate: &G,
 ) -> Result<Finished, AllocError>
-    requires { is_built machine ≡ true }
-    ensures lawful { IfOk result (λ finished. IsLawful machine finished.trace) }
+    requires built { is_built booted.machine ≡ true }
+    requires booted { IsBootedFor booted.machine up booted }
+    requires up { IsBroughtUp booted.machine None up }
+    ensures lawful { IfOk result (λ finished. IsLawful booted.machine finished.trace) }
     ensures closed { IfOk result (λ finished. ShowsHistory finished.closed.history finished.trace) }
 {
-    let lists = Lists::with_room(alloc, machine.words(0) as usize)?;
-    let boot = boot_machine(alloc, machine)?;
-    Ok(run_in(boot, lists, gate))
-}
-
-/// The run from the boot on, within lists that have the room. What the trace shows comes from the tables: each reading
-/// is what the latch answered at the ticket drawn for it, each step is one of the clock words' history, and the last
-/// number is what the ticket table answered.
-fn run_in<G: Gate>(boot: Boot, lists: Lists, gate: &G) -> Finished
-    requires built { is_built boot.shared.machine ≡ true }
-    requires booted { IsBooted boot.shared.machine boot }
-    requires room { HasRoom (length (words_of boot.shared.machine)) lists }
-    ensures { IsRunOf boot.shared.machine result.trace result.closed.history }
-{
-    let Boot {
-        shared,
-        epoch,
-        stamp,
-        first,
-        seats,
-    } = boot;
-    let Lists {
-        mut boots,
-        ups,
-        mut cpu_of,
-        mut threads,
-        mut histories,
-        events,
-        history,
-    } = lists;
-    let ran = run_thread(&shared, seats, events, history, gate);
-    boots.push(stamp);
-    cpu_of.push(0);
-    threads.push(ran.events);
-    histories.push(ran.history);
-    let trace = Trace {
-        epoch_ticket: epoch.ticket,
-        epoch_cyc: epoch.cyc,
-        boots,
-        starts: Mode::PerCpu,
-        sched_offset: 0,
-        gtod_offset: stamp.offset,
-        ups: BroughtUp {
-            cpus: ups,
-            failed: false,
-        },
-        start_word: stamp.gtod.wrapping_add(stamp.offset),
-        cpu_of,
-        threads,
-        histories,
-        tickets: shared.tickets.finish(ran.seats.time),
-    };
-    let closed = end_words(shared.words, first, ran.seats.owner);
-    Finished { trace, closed }
-}
-
-/// What a thread leaves: its seats, its events, and the steps of its clock word in their order.
-#[derive(Drop)]
-pub struct Ran {
-    pub seats: Seats,
-    pub events: List<Event>,
-    pub history: List<HistoryStep>,
-}
-
-/// The whole script of CPU 0, on these seats.
-fn run_thread<G: Gate>(
-    shared: &Shared,
-    seats: Seats,
-    events: List<Event>,
-    history: List<HistoryStep>,
-    gate: &G,
-) -> Ran
-    requires built { is_built shared.now.machine ≡ true }
-    requires ready { MayRun shared.now seats }
-    requires events { (events.items ≡ []) × (3 * length (words_of shared.now.machine) ≤ events.room) }
-    requires history { (history.items ≡ []) × (2 * length (words_of shared.now.machine) ≤ history.room) }
-    ensures { HasRun shared.now seats result }
-{
-    let mut thread = shared.thread(seats, events, history);
-    thread.run(gate);
-    let Thread {
-        ctx,
-        events,
-        history,
-        last: _,
-    } = thread;
-    let seats = Seats {
-        owner: ctx.seat,
-        latch: ctx.latch_seat,
-        time: ctx.time,
-    };
-    Ran {
-        seats,
-        events,
-        history,
-    }
-}
-
-/// The clock words at their end, when the owner's seat was joined to the first one: their history is the owner's steps.
-fn end_words(words: Words, first: Seat, owner: Seat) -> Closed
-    requires first { (place_of first ≡ words) × IsFirst first.view }
-    requires owner { (place_of owner ≡ words) × IsSecond owner.view }
-    ensures start { result.start ≡ words.start }
-    ensures history { result.history ≡ owner.view.mine }
-    ensures chain { IsChain (opens_at words.start) (steps_on 0 owner.view.mine) }
-{
-    let whole = words.join(first, owner);
-    words.finish(whole)
+    let prepared = prepare(alloc, booted, up)?;
+    Ok(run_cpus(rt, prepared, gate))
 }

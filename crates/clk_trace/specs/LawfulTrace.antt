@@ -1,13 +1,12 @@
 -- When a trace is lawful for a machine. It speaks of printed fields alone, and of any number of CPUs and readers, in either
--- start. What is not built has no place here yet: a bring-up with warp runs, a watchdog, and a demotion.
-use Rattle.std.specs.Prelude.{◌≡◌, ℕ, ◌+◌, pos, ◌+ℤ◌, ◌-ℤ◌, false, [], length, map, flat_map, All, IsPermutation, if◌then◌else◌}
+-- start, with or without a bring-up. What is not built has no place here yet: a watchdog, and a demotion.
+use Rattle.std.specs.Prelude.{◌≡◌, ℕ, ◌+◌, pos, ◌+ℤ◌, ◌-ℤ◌, false, [], length, map, flat_map, All, IsPermutation, None, if◌then◌else◌}
 use Rattle.std.specs.List.{AllZip}
 use Rattle.clk_base.specs.Walk.{Along, EachFrom}
 use Rattle.clk_num.specs.Wrapping.{wrap}
 use Rattle.clk_machine.specs.Plan.{Plan, cpu_count, threads_of}
 use Rattle.clk_machine.specs.Time.{counter_at}
-use Rattle.clk_adjust.specs.declared.up.CpuUp.{CpuUp}
-use Rattle.clk_adjust.specs.declared.up.UpOutcome.TheVariants.{Untested}
+use Rattle.clk_adjust.specs.BroughtUp.{IsBroughtUp}
 use Rattle.clk_trace.specs.Threads.{owners, readers, reader_cpus}
 use Rattle.clk_trace.specs.Lines.{step_line}
 use Rattle.clk_trace.specs.ScriptEvents.{AreEventsOf}
@@ -36,18 +35,6 @@ pub record HasOpening (m : Plan) (t : Trace) : Type 0 where
   pub sched_offset :
       t.sched_offset ≡ (if m.stable then wrap (((last_pair no_pair t.boots.items).gtod +ℤ t.gtod_offset) -ℤ (last_pair no_pair t.boots.items).raw) else pos 0)
   pub start_word : t.start_word ≡ wrap ((last_pair no_pair t.boots.items).gtod +ℤ t.gtod_offset)
-
--- the CPU of this number was not tested, and its counter is as it was
-pub record IsUntested (number : ℕ) (up : CpuUp) : Type 0 where
-  pub cpu : up.cpu ≡ number
-  pub runs : up.runs.items ≡ []
-  pub adjust : up.adjust ≡ pos 0
-  pub outcome : up.outcome ≡ Untested
-
--- there is an entry for each CPU from 1, in order; no bring-up makes warp runs yet
-pub record HasBringUp (m : Plan) (t : Trace) : Type 0 where
-  pub count : length t.ups.cpus.items + 1 ≡ cpu_count m
-  pub cpus : EachFrom IsUntested 1 t.ups.cpus.items
 
 -- each CPU's clock word has a legal history from the opening, and each per-CPU reading names stamps of its CPU: an owner its
 -- last one, and so the last before the reading, a reader none older than the reading before
@@ -79,5 +66,5 @@ pub record IsLawful (m : Plan) (t : Trace) : Type 0 where
   pub once : HoldsEachStepOnce t
   pub seen : AllZip (λ cpu es. NeverFalls t.start_word (base_of t) cpu [] es.items) t.cpu_of.items t.threads.items
   pub modes : HasModes t
-  pub bring_up : HasBringUp m t
+  pub bring_up : IsBroughtUp m None t.ups
   pub opening : HasOpening m t

@@ -1,5 +1,5 @@
 -- Which readings of a trace are right.
-use Rattle.std.specs.Prelude.{◌≡◌, ℕ, ◌==◌, ℤ, pos, List, [], ◌∷◌, map, All, if◌then◌else◌}
+use Rattle.std.specs.Prelude.{◌≡◌, ℕ, ◌==◌, ℤ, pos, List, [], ◌∷◌, ◌++◌, map, All, if◌then◌else◌}
 use Rattle.std.specs.List.{AllZip}
 use Rattle.clk_base.specs.Walk.{Along, EachFrom}
 use Rattle.clk_machine.specs.Plan.{Plan}
@@ -8,11 +8,11 @@ use Rattle.clk_machine.specs.Records.{record_zero, IsRightReading}
 use Rattle.clk_machine.specs.declared.reading.Published.{Published}
 use Rattle.clk_adjust.specs.declared.up.CpuUp.{CpuUp}
 use Rattle.clk_trace.specs.Threads.{owners, readers}
-use Rattle.clk_trace.specs.TicketOrder.{boot_blocks, thread_blocks, IsTicketOrder}
+use Rattle.clk_trace.specs.TicketOrder.{boot_blocks, up_blocks, thread_blocks, IsTicketOrder}
 use Rattle.clk_trace.specs.Updates.{records_of, OwnsRecords, record_after, NamesLater, named_after}
 use Rattle.clk_trace.specs.declared.event.EventKind.{EventKind}
 use Rattle.clk_trace.specs.declared.event.EventKind.TheVariants.{Stable, Local, Couple, Stamp, Nothing, Update, Pause}
-use Rattle.clk_trace.specs.declared.trace.StableStamp.{StableStamp}
+use Rattle.clk_demote.specs.declared.events.StableStamp.{StableStamp}
 use Rattle.clk_trace.specs.declared.trace.Trace.{Trace}
 
 -- what the bring-up adjusted a CPU's counter by, in cycles; CPU 0 has no entry
@@ -45,4 +45,5 @@ pub record HasRightReadings (m : Plan) (t : Trace) : Type 0 where
   pub owners :
       EachFrom (λ cpu es. Along (λ last e. OwnsRecords m cpu (adjust_of t cpu) last e.kind) (λ last e. record_after last e.kind) (record_zero m) es.items) 0 (owners m t)
   pub readers : All (λ es. Along (λ named e. NamesLater named e.kind) (λ named e. named_after named e.kind) 0 es.items) (readers m t)
-  pub tickets : IsTicketOrder (boot_blocks t.epoch_ticket t.boots.items) (map thread_blocks t.threads.items) t.tickets
+  pub tickets :
+      IsTicketOrder (boot_blocks t.epoch_ticket t.boots.items ++ up_blocks t.ups.cpus.items) (map thread_blocks t.threads.items) t.tickets

@@ -1,12 +1,14 @@
 -- In which order a run draws its tickets.
-use Rattle.std.specs.Prelude.{ℕ, List, [], ◌∷◌, ◌++◌, All, flat_map}
+use Rattle.std.specs.Prelude.{ℕ, List, [], ◌∷◌, ◌++◌, All, map, flat_map}
 use Rattle.clk_base.specs.declared.block.Block.{Block}
 use Rattle.clk_base.specs.Blocks.{Covers, RisesFrom, top_of}
 use Rattle.clk_num.specs.Listed.{Listed}
+use Rattle.clk_adjust.specs.Tickets.{all_readings}
+use Rattle.clk_adjust.specs.declared.up.CpuUp.{CpuUp}
 use Rattle.clk_trace.specs.declared.event.Event.{Event}
 use Rattle.clk_trace.specs.declared.event.EventKind.{EventKind}
 use Rattle.clk_trace.specs.declared.event.EventKind.TheVariants.{Stable, Local, Couple, Stamp, Nothing, Update, Pause}
-use Rattle.clk_trace.specs.declared.trace.StableStamp.{StableStamp}
+use Rattle.clk_demote.specs.declared.events.StableStamp.{StableStamp}
 
 -- the block of one reading
 abbrev pub one : ℕ → Block
@@ -33,8 +35,12 @@ thread_blocks es = flat_map blocks_of es.items
 abbrev pub boot_blocks : ℕ → List StableStamp → List Block
 boot_blocks epoch boots = one epoch ∷ flat_map (λ s. one s.gtod_ticket ∷ one s.raw.ticket ∷ []) boots
 
--- all blocks are disjoint and cover the numbers below n; those of the boot rise and come first; each list rises by itself
-pub record IsTicketOrder (boot : List Block) (lists : List (List Block)) (n : ℕ) : Type 0 where
-  pub covers : Covers (boot ++ flat_map (λ bs. bs) lists) n
-  pub boot_rises : RisesFrom 0 boot
-  pub lists_rise : All (RisesFrom (top_of 0 boot)) lists
+-- what the bring-up drew: one ticket for each reading of its runs
+abbrev pub up_blocks : List CpuUp → List Block
+up_blocks ups = map (λ r. one r.ticket) (all_readings ups)
+
+-- all blocks are disjoint and cover the numbers below n; those before the scripts rise and come first; each list rises by itself
+pub record IsTicketOrder (first : List Block) (lists : List (List Block)) (n : ℕ) : Type 0 where
+  pub covers : Covers (first ++ flat_map (λ bs. bs) lists) n
+  pub first_rise : RisesFrom 0 first
+  pub lists_rise : All (RisesFrom (top_of 0 first)) lists

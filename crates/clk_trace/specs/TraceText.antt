@@ -10,7 +10,7 @@ use Rattle.clk_adjust.specs.declared.up.CpuUp.{CpuUp}
 use Rattle.clk_trace.specs.Lines.{Line, step_line, line_text, text_of}
 use Rattle.clk_trace.specs.Lines.Line.{Head, Epoch, Boot, Start, Run, Turn, Done, Cpu, Word, Thread, Shown, History, End}
 use Rattle.clk_trace.specs.declared.event.Event.{Event}
-use Rattle.clk_trace.specs.declared.trace.StableStamp.{StableStamp}
+use Rattle.clk_demote.specs.declared.events.StableStamp.{StableStamp}
 use Rattle.clk_trace.specs.declared.trace.HistoryStep.{HistoryStep}
 use Rattle.clk_trace.specs.declared.trace.Trace.{Trace}
 

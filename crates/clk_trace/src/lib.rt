@@ -25,5 +25,5 @@ pub use gather::histories;
 pub use laws::sorted_steps_are_a_chain;
 pub use out::{Out, Part, WriteFault};
 pub use sink::{Failed, Sink};
-pub use trace::{HistoryStep, StableStamp, Trace};
+pub use trace::{HistoryStep, Trace};
 pub use write::write_trace;

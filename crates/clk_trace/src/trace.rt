@@ -1,19 +1,9 @@
 //! A whole run: the boot, the bring-up, the events of each thread, and the history of each clock word.
 use crate::event::Event;
 use clk_adjust::BroughtUp;
-use clk_machine::RawReading;
+use clk_demote::StableStamp;
 use clk_num::List;
 use clk_words::Mode;
-
-/// A stamp of the boot: the ticket and value of monotonic time in ns, 0 to 2^42, the raw reading after it, and the offset
-/// in ns that takes monotonic time to the scheduler clock.
-#[derive(Clone, Copy, PartialEq, Eq, Debug)]
-pub struct StableStamp {
-    pub gtod_ticket: u64,
-    pub gtod: i64,
-    pub raw: RawReading,
-    pub offset: i64,
-}
 
 /// A step of a clock word: the thread that made it, the number of its script word, the place of its event in the
 /// thread, and the word before and after, in ns.

@@ -1,10 +1,12 @@
 -- What a joined pair has made: both sides ended, and the tickets are those of its readings.
-use Rattle.std.proofs.Common.{◌≡◌, ℕ, ◌+◌, ◌-◌, Bool, true, false, cond, ◌||◌, List, [], ◌∷◌, ◌++◌, map, Option, Some, None, ℤ, append_assoc, append-nil, refl, sym, ap, ap₂, ◌∙◌, subst, arith}
+use Rattle.std.proofs.Common.{◌≡◌, ℕ, ◌+◌, ◌-◌, ◌<◌, Bool, true, false, cond, ◌||◌, List, [], ◌∷◌, ◌++◌, map, Option, Some, None, ℤ, append_assoc, append-nil, refl, sym, ap, ap₂, ◌∙◌, subst, arith}
 use Rattle.std.specs.Prelude.{option_map, is_some}
 use Rattle.std.proofs.lemmas.List.Sums.{sum_by_push}
+use Rattle.std.proofs.lemmas.List.Elements.{All-nil, All-cons}
 use Rattle.clk_base.specs.declared.block.Block.{Block}
 use Rattle.std.specs.List.{All, list_any}
 use mathlib.Core.List.{IsPrefix}
+use Rattle.clk_ticket.specs.Sizes.{most_tickets}
 use Rattle.clk_ticket.specs.Time.{Time, Draws, after_draw, without}
 use Rattle.clk_machine.specs.Plan.{Plan}
 use Rattle.clk_machine.specs.Time.{counter_at}
@@ -103,12 +105,14 @@ time_after s t (Pass ∷ es) has legal =
     record { time = next.time; adjust = next.adjust; drawn = next.drawn }
 
 pub draws_for : (t : Time) (rs : List WarpReading) → AreDrawn t rs → DrawsFor t rs (drawn_for t rs)
-draws_for t [] drawn = record { is = refl; table = refl; left = omega arith; blocks = sym (append-nil t.blocks); rises = λ r. r; share = refl }
+draws_for t [] drawn = record { is = refl; within = All-nil (λ r. r.ticket < most_tickets); table = refl; left = omega arith; blocks = sym (append-nil t.blocks); rises = λ r. r; share = refl }
 draws_for t (r ∷ rs) drawn =
     let next = draws_for (after_draw t r.ticket 1) rs drawn.1 in
     let grown = sum_by_push (λ (b : Block). b.count) t.blocks (block_of r) in
+    let bound = drawn.0.bound in
     record {
       is = refl;
+      within = All-cons (λ q. q.ticket < most_tickets) r rs (omega (arith, bound)) next.within;
       table = next.table;
       left = omega (arith, next.left, grown, drawn.0.share);
       blocks = next.blocks ∙ append_assoc t.blocks (block_of r ∷ []) (map block_of rs);

@@ -1,8 +1,9 @@
 -- What a pair of sides leaves behind.
-use Rattle.std.specs.Prelude.{◌≡◌, ℕ, ◌+◌, true, ℤ, List, [], ◌∷◌, ◌++◌, map, length}
+use Rattle.std.specs.Prelude.{◌≡◌, ℕ, ◌+◌, ◌<◌, true, ℤ, List, [], ◌∷◌, ◌++◌, map, length}
 use Rattle.std.specs.List.{All}
 use Rattle.clk_base.specs.declared.block.Block.{Block}
 use Rattle.clk_base.specs.Blocks.{Rises}
+use Rattle.clk_ticket.specs.Sizes.{most_tickets}
 use Rattle.clk_ticket.specs.Time.{Time, after_draw, share_of}
 use Rattle.clk_machine.specs.Plan.{Plan}
 use Rattle.clk_machine.specs.Time.{counter_at}
@@ -25,9 +26,10 @@ drawn_for t (r ∷ rs) = drawn_for (after_draw t r.ticket 1) rs
 abbrev pub block_of : WarpReading → Block
 block_of r = record { first = r.ticket; count = 1 }
 
--- the tickets of the readings are exactly those that were drawn, in lock order
+-- the tickets of the readings are exactly those that were drawn, in lock order, and each is one of the table's
 pub record DrawsFor (before : Time) (rs : List WarpReading) (now : Time) : Type 0 where
   pub is : now ≡ drawn_for before rs
+  pub within : All (λ r. r.ticket < most_tickets) rs
   pub table : now.table ≡ before.table
   pub left : now.left + length rs ≡ before.left
   pub blocks : now.blocks ≡ before.blocks ++ map block_of rs

@@ -14,5 +14,6 @@ pub mod RunOrders
 pub mod RunPairs
 pub mod RunReadings
 pub mod RunSeen
+pub mod RunStamps
 pub mod RunSteps
 pub mod RunThread

@@ -1,5 +1,7 @@
 -- What a thread made in its first words and then in one more it made in all of them.
-use Rattle.std.proofs.Common.{◌≡◌, ◌≢◌, ℕ, suc, ◌+◌, ◌*◌, ◌≤◌, ◌<◌, ◌==◌, false, ◌∙◌, ap, pos, List, [], ◌∷◌, ◌++◌, length, take, drop, get_or, Some, refl, sym, subst, arith, append_assoc, append-nil, add-one, zero-add, length-append, drop-cons}
+use Rattle.std.proofs.Common.{◌≡◌, ◌≢◌, ℕ, suc, ◌+◌, ◌*◌, ◌≤◌, ◌<◌, ◌==◌, false, ◌∙◌, ap, pos, List, [], ◌∷◌, ◌++◌, length, take, drop, get_or, Some, inl, inr, refl, sym, subst, arith, append_assoc, append-nil, add-one, zero-add, length-append, drop-cons}
+use mathlib.Core.Logic.{dite}
+use native.Mathlib.Decide.{dec_lt}
 use Rattle.std.proofs.lemmas.Bool.Decides.{nat_tests}
 use Rattle.std.proofs.lemmas.List.{map-append, length-map, length-take-le, take_more}
 use Rattle.std.proofs.lemmas.List.Elements.{All-get_or}
@@ -7,7 +9,7 @@ use Rattle.std.proofs.lemmas.List.Sums.{sum_by-cons}
 use Rattle.clk_num.specs.Listed.{Listed}
 use Rattle.clk_ticket.specs.Time.{Tickets, Time, share_of}
 use Rattle.clk_machine.specs.Plan.{cpu_count, threads_of}
-use Rattle.clk_machine.specs.Limits.{IsInRange}
+use Rattle.clk_machine.specs.Limits.{IsInRange, IsOfReader}
 use Rattle.clk_machine.specs.Tickets.{tickets_of}
 use Rattle.clk_machine.specs.declared.script.Word.{Word}
 use Rattle.clk_machine.specs.declared.script.Word.TheVariants as word
@@ -16,18 +18,19 @@ use Rattle.clk_words.specs.Held.{Held, place_of}
 use Rattle.clk_words.specs.Kinds.{cpu_of}
 use Rattle.clk_words.specs.Knowing.{IsReading}
 use Rattle.clk_latch.specs.Epoch.{Place}
-use Rattle.clk_local.specs.Context.{Site, Known, site_of, MayStamp, Keeps}
+use Rattle.clk_local.specs.Context.{Site, Known, site_of, Keeps}
 use Rattle.clk_trace.specs.ScriptEvents.{Calls, IsRemoteReading, events_at, AreEventsOf}
 use Rattle.clk_trace.specs.declared.event.Event.{Event}
 use Rattle.clk_trace.specs.declared.event.EventKind.{EventKind}
-use Rattle.clk_worker.specs.Running.{IsSound, Runs}
-use Rattle.clk_worker.specs.Calling.{Context, site_at, has, known, HasSeatsOf, Serves, StandsOn, KeepsEvents, Spends, updates_in}
+use Rattle.clk_worker.specs.Running.{IsSound, OwnsClock, Runs}
+use Rattle.clk_worker.specs.Calling.{Context, site_at, has, known, HasSeatsOf, IsContext, Serves, IsOfOwner, MayMake, StandsOn, KeepsEvents, Spends, updates_in}
 use Rattle.clk_worker.specs.Making.{Hand, script_of, FitTogether, SeatsServe, HasEnough, HasMade, IsGoing, Begins, BelongsTo, WentOn, MakesAt, MakesWord}
 use Rattle.clk_worker.specs.declared.shared.Shared.{Shared}
 use Rattle.clk_worker.specs.declared.own.Post.{Post}
 use Rattle.clk_worker.specs.declared.own.Own.{Own}
-use Rattle.clk_worker.proofs.Scripts.{cpu_is_thread, thread_words}
+use Rattle.clk_worker.proofs.Scripts.{thread_words, reader_words}
 use Rattle.clk_worker.proofs.Showing.{runs-append}
+use Rattle.clk_worker.proofs.Sounding.{OwnsLatch}
 
 -- ---- one word in its context
 
@@ -37,9 +40,16 @@ serves_after share v u r k sound =
     record {
       percpu = ap (λ (s : Start). s.opening.mode) k.role.seat.start_is ∙ r.percpu;
       usable = k.usable;
-      may_stamp = k.may_stamp r.may_stamp;
       sound = subst (λ (z : Site). IsSound z share (known u)) (sym k.site) sound;
     }
+
+-- and an owner's owns its clock after it
+pub owns_after : (v u : Context) → Keeps (λ l s. s.latch ≡ l) (λ s. s.epoch) v u → (OwnsLatch (site_of v) (known v) → OwnsLatch (site_of v) (known u))
+    → IsOfOwner v → IsOfOwner u
+owns_after v u k keeps own =
+    let latch = keeps (record { owner = own.owner; records = own.records; drawn = own.drawn }) in
+    subst (λ (z : Site). OwnsClock z (known u)) (sym k.site)
+    (record { may_stamp = k.may_stamp own.may_stamp; owner = latch.owner; records = latch.records; drawn = latch.drawn })
 
 pub stands_after : (v u : Context) → Keeps (λ l s. s.latch ≡ l) (λ s. s.epoch) v u → StandsOn v u
 stands_after v u k = record { words = k.words; epochs = k.epochs; tickets = k.tickets; site = k.site }
@@ -68,7 +78,19 @@ has_is ctx o h =
 
 -- what is sound at one call is so at each
 sound_at : (s : Shared) (p : Post) (m n share : ℕ) (v : Known) → IsSound (site_at s p m) share v → IsSound (site_at s p n) share v
-sound_at s p m n share v h = record { owner = h.owner; records = h.records; drawn = h.drawn; share_is = h.share_is; rises = h.rises }
+sound_at s p m n share v h = record { base = h.base; share_is = h.share_is; rises = h.rises }
+
+owns_at : (s : Shared) (p : Post) (m n : ℕ) (v : Known) → OwnsClock (site_at s p m) v → OwnsClock (site_at s p n) v
+owns_at s p m n v h = record { may_stamp = h.may_stamp; owner = h.owner; records = h.records; drawn = h.drawn }
+
+-- the seats of an owner's context own the clock, and a context of such seats is an owner's
+seats_own : (s : Shared) (p : Post) (m : ℕ) (ctx : Context) (o : Own) → HasSeatsOf ctx o → site_of ctx ≡ site_at s p m → IsOfOwner ctx → OwnsClock (site_at s p 0) (has o)
+seats_own s p m ctx o seats site own =
+    owns_at s p m 0 (has o) (subst (λ (x : Known). OwnsClock (site_at s p m) x) (has_is ctx o seats) (subst (λ (z : Site). OwnsClock z (known ctx)) site own))
+
+context_owns : (s : Shared) (p : Post) (m : ℕ) (ctx : Context) (o : Own) → HasSeatsOf ctx o → site_of ctx ≡ site_at s p m → OwnsClock (site_at s p 0) (has o) → IsOfOwner ctx
+context_owns s p m ctx o seats site own =
+    subst (λ (z : Site). OwnsClock z (known ctx)) (sym site) (subst (λ (x : Known). OwnsClock (site_at s p m) x) (sym (has_is ctx o seats)) (owns_at s p 0 m (has o) own))
 
 runs_at : (s : Shared) (p : Post) (m n : ℕ) (v : Known) (es : List Event) (w : Known) → Runs (site_at s p m) v es w → Runs (site_at s p n) v es w
 runs_at s p m n v [] w r = r
@@ -89,7 +111,8 @@ serve_after s p share m o after a b h made =
     let latch = ap (λ (x : Place). x.latch) made.seats.latch_seat ∙ r.usable.of_latch ∙ made.makes.stands.epochs in
     record {
       shared = h.shared;
-      own_thread = h.own_thread;
+      thread = h.thread;
+      stands = h.stands;
       cpu = h.cpu;
       near = h.near;
       offset = h.offset;
@@ -98,10 +121,10 @@ serve_after s p share m o after a b h made =
       of_tickets = ap (λ (x : Time). x.table) made.seats.time ∙ r.usable.of_tickets ∙ ap (λ (x : Tickets). x.table) (made.makes.stands.tickets ∙ c.tickets);
       reading = subst (λ (x : Held). IsReading x.view.kind) (sym seat) r.usable.reading;
       cpu_is = ap (λ (z : Site). z.cpu) (sym site) ∙ r.usable.cpu_is ∙ ap (λ (x : Held). cpu_of x.view.kind) (sym seat);
-      may_stamp = subst (λ (x : Held). MayStamp x.view) (sym seat) r.may_stamp;
       sound =
           sound_at s p m 0 share (has after)
           (subst (λ (x : Known). IsSound (site_at s p m) share x) (has_is w after made.seats) (subst (λ (z : Site). IsSound z share (known w)) site sound));
+      owner = λ low. seats_own s p m w after made.seats site (made.makes.owner (context_owns s p m v o c.seats c.site (h.owner low)));
     }
 
 -- ---- one word more
@@ -251,11 +274,8 @@ pub belongs_on : (s : Shared) (v w : Hand) → BelongsTo s v → WentOn s v w �
 belongs_on s v w b went = (b.0, went b.0 b.1)
 
 -- its thread is one of the machine's
-pub thread_is : (s : Shared) (p : Post) (share : ℕ) (o : Own) → SeatsServe s p share o → p.thread < length (threads_of s.machine)
-thread_is s p share o serves = subst (λ (n : ℕ). n < length (threads_of s.machine)) (sym serves.own_thread) (cpu_is_thread s.machine p.cpu serves.cpu)
-
 pub thread_there : (s : Shared) (h : Hand) → BelongsTo s h → h.post.thread < length (threads_of s.machine)
-thread_there s h b = thread_is s h.post (share_of b.1.began.time) b.1.own b.1.made.serves
+thread_there s h b = b.1.made.serves.thread
 
 -- its script has few words
 pub words_few : (s : Shared) (h : Hand) → BelongsTo s h → length (script_of s h.post) ≤ 65536
@@ -277,3 +297,13 @@ word_in_range s p m w fit there low is =
     let all = (thread_words s.machine p.thread fit.limits there).range in
     let one : IsInRange (cpu_count s.machine) (get_or (script_of s p) m w) = All-get_or (IsInRange (cpu_count s.machine)) (script_of s p) m w low all in
     subst (λ (n : ℕ). IsInRange n w) (sym fit.cpus) (subst (IsInRange (cpu_count s.machine)) (sym is) one)
+
+-- its thread may make it: a CPU's own thread owns the clock, and another has the words of a reader
+pub may_make : (s : Shared) (p : Post) (m share : ℕ) (w : Word) (o : Own) (ctx : Context) → SeatsServe s p share o → IsContext s p m o ctx → m < length (script_of s p)
+    → w ≡ get_or (script_of s p) m w → MayMake w ctx
+may_make s p m share w o ctx serves c low is =
+    dite (dec_lt p.thread (cpu_count s.machine))
+    (λ own. inr (context_owns s p m ctx o c.seats c.site (serves.owner own)))
+    (λ other.
+    let all = reader_words s.machine p.thread serves.shared.limits (omega (arith, other)) serves.thread in
+    inl (subst IsOfReader (sym is) (All-get_or IsOfReader (script_of s p) m w low all)))

@@ -2,9 +2,8 @@
 -- each coupling names a value that the other word held and that some word got otherwise.
 use Rattle.std.proofs.Common.{◌≡◌, ℕ, ◌+◌, ℤ, ◌<ℤ◌, ◌⊎◌, inl, inr, Bool, List, [], ◌∷◌, ◌++◌, map, filter, nat_eq, Contains, refl, ap, ◌∙◌, sym, subst, arith}
 use Rattle.std.proofs.lemmas.Int.{ints}
-use Rattle.std.specs.List.{All, flat_map, sum_by}
+use Rattle.std.specs.List.{All, sum_by}
 use Rattle.std.specs.List.Sorted.{IsPermutation}
-use Rattle.std.proofs.lemmas.List.{map-append}
 use Rattle.std.proofs.lemmas.List.Elements.{All-nil, All-cons, All-head, All-tail, All-weaker, All-filter}
 use Rattle.std.proofs.lemmas.List.Sorted.{IsPermutation-sym, IsPermutation-trans, IsPermutation-cons, IsPermutation-map, Contains-permutation}
 use Rattle.clk_base.specs.Chains.{IsChainBy}
@@ -16,16 +15,13 @@ use Rattle.clk_words.specs.declared.opening.Start.{Start}
 use Rattle.clk_words.specs.declared.step.Step.{Step}
 use Rattle.clk_words.specs.declared.step.Why.{Why}
 use Rattle.clk_words.specs.declared.step.Why.TheVariants.{Raise, Couple, Lift}
-use Rattle.clk_words.specs.declared.view.View.{View}
 use Rattle.clk_words.specs.Bounds.{IsClock}
-use Rattle.clk_words.specs.Calls.{IsComplete, all_steps}
 use Rattle.clk_words.specs.Histories.{opens_at, NamesHeld, Follows, AllFollow, IsGlobalHistory, steps_on, IsChain}
 use Rattle.clk_words.specs.Targets.{target}
 use Rattle.clk_words.proofs.Replay.{clock_near, AreClocks, opening_range, range_more, is_chain}
 use Rattle.clk_trace.specs.LegalHistory.{NamesSource, IsLegalHistory}
 use Rattle.clk_trace.specs.SortedHistory.{GoesUp, change_of}
-use Rattle.clk_trace.specs.WordHistory.{Placed, steps_from, all_steps as placed_steps, line_of, steps_on as placed_on, IsHistoryOf}
-use Rattle.clk_trace.specs.declared.event.Event.{Event}
+use Rattle.clk_trace.specs.WordHistory.{Placed, line_of, steps_on as placed_on, IsHistoryOf}
 use Rattle.clk_trace.specs.declared.trace.HistoryStep.{HistoryStep}
 use Rattle.clk_trace.proofs.Sorting.{sorted_chain}
 use Rattle.clk_worker.proofs.RunBrought.{brings_step, held_here, held_brought}
@@ -39,33 +35,6 @@ use Rattle.clk_worker.proofs.RunSteps.{numbered}
 pub record HoldsSteps (start : Start) (history : List Step) (placed : List Placed) : Type 0 where
   pub legal : IsGlobalHistory start history
   pub once : SameSums (map numbered placed) history
-
--- the own lists are those of these threads, which are numbered from n
-abbrev pub AreOwn : ℕ → List ℕ → List (Listed Event) → List (ℕ × List Step) → Type 0
-AreOwn n [] [] [] = Unit {0}
-AreOwn n (cpu ∷ cpus) (es ∷ threads) (own ∷ lists) = (own.1 ≡ map numbered (steps_from n cpu 0 es.items)) × AreOwn (n + 1) cpus threads lists
-AreOwn n _ _ _ = ⊥
-
-own_steps : (n : ℕ) (cpus : List ℕ) (threads : List (Listed Event)) (lists : List (ℕ × List Step)) → AreOwn n cpus threads lists
-    → flat_map (λ own. own.1) lists ≡ map numbered (placed_steps n cpus threads)
-own_steps n [] [] [] h = refl
-own_steps n (cpu ∷ cpus) (es ∷ threads) (own ∷ lists) h =
-    let here : List Placed = steps_from n cpu 0 es.items in
-    ap (λ (xs : List Step). xs ++ flat_map (λ (o : ℕ × List Step). o.1) lists) h.0
-    ∙ ap (λ (xs : List Step). map numbered here ++ xs) (own_steps (n + 1) cpus threads lists h.1)
-    ∙ sym (map-append numbered here (placed_steps (n + 1) cpus threads))
-own_steps n [] [] (own ∷ lists) h = absurd h
-own_steps n [] (es ∷ threads) lists h = absurd h
-own_steps n (cpu ∷ cpus) [] lists h = absurd h
-own_steps n (cpu ∷ cpus) (es ∷ threads) [] h = absurd h
-
--- so the words' history at the end is one of the threads' steps, where the seat that ends them made none itself
-pub holds_steps : (start : Start) (v : View) (history : List Step) (cpus : List ℕ) (threads : List (Listed Event)) → IsComplete start v history → v.mine ≡ []
-    → AreOwn 0 cpus threads v.joined → HoldsSteps start history (placed_steps 0 cpus threads)
-holds_steps start v history cpus threads complete none own =
-    let all : all_steps v ≡ map numbered (placed_steps 0 cpus threads) =
-    ap (λ (xs : List Step). xs ++ flat_map (λ (o : ℕ × List Step). o.1) v.joined) none ∙ own_steps 0 cpus threads v.joined own in
-    record { legal = complete.legal; once = λ f. ap (sum_by f) (sym all) ∙ sym (complete.once f) }
 
 -- the steps that a test keeps, in the order of the history
 pub in_order : (start : Start) (history : List Step) (placed : List Placed) → HoldsSteps start history placed → (p : Step → Bool)

@@ -4,10 +4,10 @@ use Rattle.std.proofs.Common.{◌≡◌, ℕ, ℤ, List, [], ◌∷◌, ◌++◌
 use Rattle.clk_words.specs.declared.opening.Mode.TheVariants.{PerCpu}
 use Rattle.clk_words.specs.declared.opening.Start.{Start}
 use Rattle.clk_words.specs.declared.kind.SeatKind.{SeatKind}
-use Rattle.clk_words.specs.declared.kind.SeatKind.TheVariants.{Owner}
 use Rattle.clk_words.specs.declared.step.Step.{Step}
 use Rattle.clk_words.specs.declared.view.View.{View}
 use Rattle.clk_words.specs.Fronts.{Begins}
+use Rattle.clk_words.specs.Kinds.{cpu_of}
 use Rattle.clk_words.specs.Told.{Raises}
 use Rattle.clk_words.proofs.Fronts.{begins_self, begins_through}
 use Rattle.clk_machine.specs.declared.reading.RawReading.{RawReading}
@@ -63,12 +63,12 @@ runs_fixed z v (e ∷ es) w r = runs_fixed z r.1 es w r.4 ∙ shows_fixed (at_ca
 
 -- ---- whose seat it is
 
--- that of the CPU's owner, under this number, of words that began per-CPU
+-- a seat on this CPU, under this number, of words that began per-CPU
 pub record IsHome (cpu : ℕ) (start : Start) (number : ℕ) (v : View) : Type 0 where
   pub percpu : start.opening.mode ≡ PerCpu
   pub start_is : v.start ≡ start
   pub number_is : v.number ≡ number
-  pub kind_is : v.kind ≡ Owner cpu
+  pub cpu_is : cpu_of v.kind ≡ cpu
 
 pub home_stays : (cpu : ℕ) (start : Start) (number : ℕ) (v w : View) → fixed w ≡ fixed v → IsHome cpu start number v → IsHome cpu start number w
 home_stays cpu start number v w same h =
@@ -76,7 +76,7 @@ home_stays cpu start number v w same h =
       percpu = h.percpu;
       start_is = ap (λ (f : Fixed). f.start) same ∙ h.start_is;
       number_is = ap (λ (f : Fixed). f.number) same ∙ h.number_is;
-      kind_is = ap (λ (f : Fixed). f.kind) same ∙ h.kind_is;
+      cpu_is = ap (λ (f : Fixed). cpu_of f.kind) same ∙ h.cpu_is;
     }
 
 -- before the first of some events, after the looks; and after it
@@ -105,12 +105,7 @@ pub grows_through : (u v w : View) → Grows u v → Grows v w → Grows u w
 grows_through u v w p q =
     record { mine = begins_through u.mine v.mine w.mine p.mine q.mine; seen = begins_through u.seen v.seen w.seen p.seen q.seen }
 
--- a load adds what was seen meanwhile, and a step itself besides
-pub loads_seen : (v w : View) (cpu asked : ℕ) (own other : ℤ) → (h : LoadsBoth v cpu asked own other w) → w.seen ≡ v.seen ++ (h.first.between ++ h.second.between)
-loads_seen v w cpu asked own other h =
-    ap (λ (u : View). u.seen) h.second.view_is ∙ ap (λ (u : View). u.seen ++ h.second.between) h.first.view_is
-    ∙ append_assoc v.seen h.first.between h.second.between
-
+-- a step adds what was seen meanwhile, and itself
 pub step_seen : (v w : View) (s : Step) → (h : Raises v s w) → w.seen ≡ v.seen ++ (h.makes.between ++ s ∷ [])
 step_seen v w s h = ap (λ (u : View). u.seen) h.makes.view_is ∙ append_assoc v.seen h.makes.between (s ∷ [])
 

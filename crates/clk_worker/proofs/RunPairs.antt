@@ -11,7 +11,6 @@ use Rattle.clk_words.specs.declared.view.View.{View}
 use Rattle.clk_words.specs.declared.view.PairView.{PairView}
 use Rattle.clk_words.specs.declared.view.Name.{Name}
 use Rattle.clk_words.specs.declared.view.Part.{Part}
-use Rattle.clk_words.specs.Kinds.{cpu_of}
 use Rattle.clk_words.specs.Parts.{gtod_of, raw_of, part_of, last_from}
 use Rattle.clk_words.specs.Rights.{has_number, owned_by}
 use Rattle.clk_words.specs.Told.{Finds, FindsRaw, FindsGtod, stamped}
@@ -19,6 +18,7 @@ use Rattle.clk_words.specs.Views.{pairs_known}
 use Rattle.clk_words.proofs.Registers.{put_here, put_else, last_more}
 use Rattle.clk_machine.specs.declared.reading.RawReading.{RawReading}
 use Rattle.clk_local.specs.Context.{Site, Known}
+use Rattle.clk_local.specs.Shows.{ShowsRaised}
 use Rattle.clk_trace.specs.Stamps.{Pair, pair_after, NamesPair}
 use Rattle.clk_trace.specs.declared.event.Event.{Event}
 use Rattle.clk_trace.specs.declared.event.EventKind.{EventKind}
@@ -76,7 +76,7 @@ pub record EndsWith (cpu : ℕ) (ps : PairView) (p : Pair) : Type 0 where
 
 -- ---- at first
 
-known_at : (n cpu : ℕ) (o : Opening) → cpu < n
+pub known_at : (n cpu : ℕ) (o : Opening) → cpu < n
     → (part_of (pairs_known n o) (gtod_of cpu) ≡ record { zero = Some o.tick_gtod; after = [] })
     × (part_of (pairs_known n o) (raw_of cpu) ≡ record { zero = Some o.tick_raw; after = [] })
 known_at zero cpu o low = absurd (omega arith)
@@ -87,14 +87,18 @@ known_at (suc n) (suc cpu) o low =
     let raw : raw_of (suc cpu) ≡ suc (suc (raw_of cpu)) = omega arith in
     (ap (part_of (pairs_known (suc n) o)) gtod ∙ rest.0, ap (part_of (pairs_known (suc n) o)) raw ∙ rest.1)
 
-owns_self : (cpu : ℕ) → has_number (owned_by (Owner cpu)) cpu ≡ true
+pub owns_self : (cpu : ℕ) → has_number (owned_by (Owner cpu)) cpu ≡ true
 owns_self cpu = let same = eq-eqb cpu cpu refl in rw same refl
 
+abbrev pub opening_pair : Start → Pair
+opening_pair start = record { raw = start.opening.tick_raw; gtod = start.opening.tick_gtod }
+
 -- a fresh owner's seat ends with the pair of the opening
-pub pair_first : (n cpu : ℕ) (o : Opening) (ps : PairView) → cpu < n → ps.parts ≡ pairs_known n o → ps.owns ≡ owned_by (Owner cpu)
-    → EndsWith cpu ps (record { raw = o.tick_raw; gtod = o.tick_gtod })
-pair_first n cpu o ps low parts owns =
-    let at = known_at n cpu o low in
+pub pair_first : (start : Start) (cpu : ℕ) (ps : PairView) → cpu < start.cpus → ps.parts ≡ pairs_known start.cpus start.opening → ps.owns ≡ owned_by (Owner cpu)
+    → EndsWith cpu ps (opening_pair start)
+pair_first start cpu ps low parts owns =
+    let o : Opening = start.opening in
+    let at = known_at start.cpus cpu o low in
     let gtod = ap (λ (qs : List Part). part_of qs (gtod_of cpu)) parts ∙ at.0 in
     let raw = ap (λ (qs : List Part). part_of qs (raw_of cpu)) parts ∙ at.1 in
     record {
@@ -120,24 +124,40 @@ offset_of_why (Raise raw tick_raw tick_gtod offset) = offset
 offset_of_why (Couple from value) = value
 offset_of_why (Lift value) = value
 
+-- a local reading names what it found, and the offset of the opening
+pub local_names : (z : Site) (start : Start) (number : ℕ) (v w : Known) (raw : RawReading) (tick_raw tick_gtod offset old new : ℤ) → IsHome z.cpu start number v.view
+    → (h : ShowsLocal z v raw tick_raw tick_gtod offset old new w)
+    → (tick_raw ≡ h.raised.tick_raw) × (tick_gtod ≡ h.raised.tick_gtod) × (offset ≡ start.opening.offset)
+local_names z start number v w raw tick_raw tick_gtod offset old new home h =
+    let why = sym h.why_is ∙ ap (λ (s : Step). s.why) h.raised.step_is in
+    let offset_is = h.raised.from_start (ap (λ (o : Start). o.opening.mode) home.start_is ∙ home.percpu) in
+    (ap raw_of_why why, ap gtod_of_why why, ap offset_of_why why ∙ offset_is ∙ ap (λ (o : Start). o.opening.offset) home.start_is)
+
+-- what it found are the halves of its own CPU's pair
+pub local_raw : (z : Site) (start : Start) (number : ℕ) (v w : Known) (raw : RawReading) (step : Step) → IsHome z.cpu start number v.view
+    → (h : ShowsRaised z v raw step w) → FindsRaw v.view z.cpu h.tick_raw h.finds.half
+local_raw z start number v w raw step home h = subst (λ k. FindsRaw v.view k h.tick_raw h.finds.half) home.cpu_is h.finds.first
+
+pub local_gtod : (z : Site) (start : Start) (number : ℕ) (v w : Known) (raw : RawReading) (step : Step) → IsHome z.cpu start number v.view
+    → (h : ShowsRaised z v raw step w) → FindsGtod h.finds.half z.cpu h.tick_gtod h.pair
+local_gtod z start number v w raw step home h = subst (λ k. FindsGtod h.finds.half k h.tick_gtod h.pair) home.cpu_is h.finds.second
+
 local_pair : (z : Site) (start : Start) (number : ℕ) (v w : Known) (raw : RawReading) (tick_raw tick_gtod offset old new : ℤ) (p : Pair) → IsHome z.cpu start number v.view
     → ShowsLocal z v raw tick_raw tick_gtod offset old new w → EndsWith z.cpu v.view.pairs p
     → ((tick_raw ≡ p.raw) × (tick_gtod ≡ p.gtod) × (offset ≡ start.opening.offset)) × EndsWith z.cpu w.view.pairs p
 local_pair z start number v w raw tick_raw tick_gtod offset old new p home h ends =
     let f = h.raised.finds in
-    let first : FindsRaw v.view z.cpu h.raised.tick_raw f.half = subst (λ k. FindsRaw v.view k h.raised.tick_raw f.half) (ap cpu_of home.kind_is) f.first in
-    let second : FindsGtod f.half z.cpu h.raised.tick_gtod h.raised.pair =
-    subst (λ k. FindsGtod f.half k h.raised.tick_gtod h.raised.pair) (ap cpu_of home.kind_is) f.second in
+    let names = local_names z start number v w raw tick_raw tick_gtod offset old new home h in
+    let first = local_raw z start number v w raw h.step home h.raised in
+    let second = local_gtod z start number v w raw h.step home h.raised in
     let half_owner : has_number f.half.pairs.owns z.cpu ≡ true = ap (λ (x : View). has_number x.pairs.owns z.cpu) first.finds.view_is ∙ ends.owner in
     let one = finds_here v.view f.half (raw_of z.cpu) _ h.raised.tick_raw p.raw first.finds (first.whole ends.owner) ends.raw in
     let one_else = finds_else v.view f.half (raw_of z.cpu) (gtod_of z.cpu) _ h.raised.tick_raw p.gtod first.finds (λ e. omega (arith, e)) ends.gtod in
     let two = finds_here f.half h.raised.pair (gtod_of z.cpu) _ h.raised.tick_gtod p.gtod second.finds (second.whole half_owner) one_else in
     let two_else = finds_else f.half h.raised.pair (gtod_of z.cpu) (raw_of z.cpu) _ h.raised.tick_gtod p.raw second.finds (λ e. omega (arith, e)) one.1 in
-    let why = sym h.why_is ∙ ap (λ (s : Step). s.why) h.raised.step_is in
-    let offset_is = h.raised.from_start (ap (λ (o : Start). o.opening.mode) home.start_is ∙ home.percpu) in
     let owner : has_number h.raised.pair.pairs.owns z.cpu ≡ true = ap (λ (x : View). has_number x.pairs.owns z.cpu) second.finds.view_is ∙ half_owner in
     let found : EndsWith z.cpu h.raised.pair.pairs p = record { raw = two_else; gtod = two.1; owner = owner } in (
-      (ap raw_of_why why ∙ one.0, ap gtod_of_why why ∙ two.0, ap offset_of_why why ∙ offset_is ∙ ap (λ (o : Start). o.opening.offset) home.start_is),
+      (names.0 ∙ one.0, names.1 ∙ two.0, names.2),
       subst (λ ps. EndsWith z.cpu ps p) (sym h.raised.pairs_is) found,
     )
 

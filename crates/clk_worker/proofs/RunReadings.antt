@@ -1,5 +1,6 @@
--- The readings of a run are right: the latch's owner reads by the last of its own records.
-use Rattle.std.proofs.Common.{◌≡◌, ℕ, ◌+◌, ℤ, true, List, [], ◌∷◌, ◌++◌, length, ap, ◌∙◌, sym, subst, arith, length-append, append_assoc, append-nil}
+-- The readings of a run are right: each goes by a record that its thread knows, none older than before; the latch's owner
+-- reads by the last of its own records.
+use Rattle.std.proofs.Common.{◌≡◌, ℕ, ◌+◌, ◌<◌, ℤ, true, List, [], ◌∷◌, ◌++◌, length, ap, ◌∙◌, sym, subst, arith, length-append, append_assoc, append-nil}
 use Rattle.std.specs.List.{All}
 use Rattle.std.proofs.lemmas.List.Elements.{All-nil, All-cons}
 use mathlib.Core.List.{IsPrefix}
@@ -9,10 +10,11 @@ use Rattle.clk_machine.specs.Records.{record_zero, IsNextRecord}
 use Rattle.clk_machine.specs.declared.reading.Published.{Published}
 use Rattle.clk_latch.specs.Epoch.{Epoch}
 use Rattle.clk_latch.specs.Calls.{last_of}
+use Rattle.clk_latch.proofs.Prefixes.{prefix_self, prefix_trans, prefix_length}
 use Rattle.clk_latch.proofs.Updating.{last_is}
 use Rattle.clk_latch.proofs.Staying.{stay_right}
 use Rattle.clk_local.specs.Context.{Site, Known}
-use Rattle.clk_trace.specs.Updates.{update_of_kind, updates_of, OwnsRecords, record_after}
+use Rattle.clk_trace.specs.Updates.{update_of_kind, updates_of, OwnsRecords, record_after, NamesLater, named_after}
 use Rattle.clk_trace.specs.RightReadings.{IsRightKind}
 use Rattle.clk_trace.specs.declared.event.Event.{Event}
 use Rattle.clk_trace.specs.declared.event.EventKind.{EventKind}
@@ -25,6 +27,8 @@ records_in v = v.epoch.records
 
 abbrev pub IsOwner : Known → Type 0
 IsOwner v = v.epoch.owner ≡ true
+
+-- ---- the owner's
 
 -- looks leave the owner what it is
 looked_owner : (v w : Known) → HasLooked v w → IsOwner v → IsOwner w
@@ -58,6 +62,24 @@ runs_records z v (e ∷ es) w r own =
     ∙ ap (λ (x : Epoch). (x.records ++ update_of_kind e.kind) ++ updates_of es) r.2.epoch_is
     ∙ append_assoc (records_in v) (update_of_kind e.kind) (updates_of es)
 
+-- ---- any thread's records grow
+
+shows_grown : (z : Site) (v : Known) (k : EventKind) (w : Known) → Shows z v k w → IsPrefix (records_in v) (records_in w)
+shows_grown z v (Stable raw value) w h = absurd h
+shows_grown z v (Local raw tick_raw tick_gtod offset old new) w h = h.raised.reads.reads.seen
+shows_grown z v (Couple asked own other word old new) w h =
+    subst (λ (x : Epoch). IsPrefix (records_in v) x.records) (sym h.coupled.epoch_is) (prefix_self (records_in v))
+shows_grown z v (Stamp gtod_ticket gtod raw) w h = h.reads.reads.seen
+shows_grown z v Nothing w h = absurd h
+shows_grown z v (Update p) w h = (p ∷ [], sym (ap (λ (x : Epoch). x.records) h.updates.is))
+shows_grown z v (Pause ticket count) w h = subst (λ (x : Epoch). IsPrefix (records_in v) x.records) (sym h.epoch_is) (prefix_self (records_in v))
+
+pub runs_grown : (z : Site) (v : Known) (es : List Event) (w : Known) → Runs z v es w → IsPrefix (records_in v) (records_in w)
+runs_grown z v [] w r = subst (λ (x : Known). IsPrefix (records_in v) (records_in x)) r (prefix_self (records_in v))
+runs_grown z v (e ∷ es) w r =
+    subst (λ (x : Epoch). IsPrefix x.records (records_in w)) r.2.epoch_is
+    (prefix_trans (records_in r.0) (records_in r.1) (records_in w) (shows_grown (at_call z e.call) r.0 e.kind r.1 r.3) (runs_grown z r.1 es w r.4))
+
 -- a reading is right by the records that its seat has then, and by more of them
 shows_right : (z : Site) (v : Known) (k : EventKind) (w : Known) → Shows z v k w → IsRightKind z.machine z.cpu z.adjust (records_in w) k
 shows_right z v (Stable raw value) w h = absurd h
@@ -68,7 +90,7 @@ shows_right z v Nothing w h = absurd h
 shows_right z v (Update p) w h = tt
 shows_right z v (Pause ticket count) w h = tt
 
-right_more : (m : Plan) (cpu : ℕ) (adjust : ℤ) (records more : List Published) (k : EventKind) → IsPrefix records more → IsRightKind m cpu adjust records k → IsRightKind m cpu adjust more k
+pub right_more : (m : Plan) (cpu : ℕ) (adjust : ℤ) (records more : List Published) (k : EventKind) → IsPrefix records more → IsRightKind m cpu adjust records k → IsRightKind m cpu adjust more k
 right_more m cpu adjust records more (Stable raw value) begins h = stay_right m cpu adjust records more raw begins h
 right_more m cpu adjust records more (Local raw tick_raw tick_gtod offset old new) begins h = stay_right m cpu adjust records more raw begins h
 right_more m cpu adjust records more (Couple asked own other word old new) begins h = tt
@@ -77,15 +99,45 @@ right_more m cpu adjust records more Nothing begins h = tt
 right_more m cpu adjust records more (Update p) begins h = tt
 right_more m cpu adjust records more (Pause ticket count) begins h = tt
 
-pub runs_right : (z : Site) (v : Known) (es : List Event) (w : Known) → Runs z v es w → IsOwner v → All (λ e. IsRightKind z.machine z.cpu z.adjust (records_in w) e.kind) es
-runs_right z v [] w r own = All-nil (λ e. IsRightKind z.machine z.cpu z.adjust (records_in w) e.kind)
-runs_right z v (e ∷ es) w r own =
-    let still = shows_owner (at_call z e.call) r.0 e.kind r.1 r.3 (looked_owner v r.0 r.2 own) in
+pub runs_right : (z : Site) (v : Known) (es : List Event) (w : Known) → Runs z v es w → All (λ e. IsRightKind z.machine z.cpu z.adjust (records_in w) e.kind) es
+runs_right z v [] w r = All-nil (λ e. IsRightKind z.machine z.cpu z.adjust (records_in w) e.kind)
+runs_right z v (e ∷ es) w r =
     All-cons (λ e. IsRightKind z.machine z.cpu z.adjust (records_in w) e.kind) e es
-    (right_more z.machine z.cpu z.adjust (records_in r.1) (records_in w) e.kind (updates_of es, sym (runs_records z r.1 es w r.4 still)) (shows_right (at_call z e.call) r.0 e.kind r.1 r.3))
-    (runs_right z r.1 es w r.4 still)
+    (right_more z.machine z.cpu z.adjust (records_in r.1) (records_in w) e.kind (runs_grown z r.1 es w r.4) (shows_right (at_call z e.call) r.0 e.kind r.1 r.3))
+    (runs_right z r.1 es w r.4)
 
--- ---- it names the last record, and an update publishes the one after it
+-- ---- the records that readings name do not go back
+
+shows_later : (z : Site) (v : Known) (k : EventKind) (w : Known) (named : ℕ) → Shows z v k w → named < length (records_in v)
+    → NamesLater named k × (named_after named k < length (records_in w))
+shows_later z v (Stable raw value) w named h low = absurd h
+shows_later z v (Local raw tick_raw tick_gtod offset old new) w named h low =
+    let grown = prefix_length (records_in v) (records_in w) h.raised.reads.reads.seen in
+    let last = h.raised.reads.reads.last in
+    (omega (arith, low, grown, last), omega (arith, last))
+shows_later z v (Couple asked own other word old new) w named h low =
+    let grown = prefix_length (records_in v) (records_in w) (shows_grown z v (Couple asked own other word old new) w h) in
+    (tt, omega (arith, low, grown))
+shows_later z v (Stamp gtod_ticket gtod raw) w named h low =
+    let grown = prefix_length (records_in v) (records_in w) h.reads.reads.seen in
+    let last = h.reads.reads.last in
+    (omega (arith, low, grown, last), omega (arith, last))
+shows_later z v Nothing w named h low = absurd h
+shows_later z v (Update p) w named h low =
+    let grown = prefix_length (records_in v) (records_in w) (shows_grown z v (Update p) w h) in
+    (tt, omega (arith, low, grown))
+shows_later z v (Pause ticket count) w named h low =
+    let grown = prefix_length (records_in v) (records_in w) (shows_grown z v (Pause ticket count) w h) in
+    (tt, omega (arith, low, grown))
+
+pub runs_later : (z : Site) (v : Known) (es : List Event) (w : Known) (named : ℕ) → Runs z v es w → named < length (records_in v)
+    → Along (λ n e. NamesLater n e.kind) (λ n e. named_after n e.kind) named es
+runs_later z v [] w named r low = tt
+runs_later z v (e ∷ es) w named r low =
+    let here = shows_later (at_call z e.call) r.0 e.kind r.1 named r.3 (subst (λ (x : Epoch). named < length x.records) (sym r.2.epoch_is) low) in
+    (here.0, runs_later z r.1 es w (named_after named e.kind) r.4 here.1)
+
+-- ---- an owner's name the last record, and an update publishes the one after it
 
 -- the last of the owner's records, by whose number they are counted
 pub record EndsBy (last : Published) (zero : Published) (v : Known) : Type 0 where

@@ -15,7 +15,6 @@ use Rattle.clk_words.specs.Bounds.{IsClock}
 use Rattle.clk_words.specs.Fronts.{Begins}
 use Rattle.clk_words.specs.Histories.{opens_at, value_after, HadValue, AllFollow, IsGlobalHistory}
 use Rattle.clk_words.specs.Heights.{height}
-use Rattle.clk_words.specs.Kinds.{cpu_of}
 use Rattle.clk_words.specs.Told.{Raises}
 use Rattle.clk_words.proofs.Fronts.{begins_through}
 use Rattle.clk_words.proofs.Replay.{value_here, follow_back, legal_front, legal_range, rises, had_here, had_later, had_below}
@@ -154,7 +153,7 @@ local_seen z start number base seen v w raw tick_raw tick_gtod offset old new ho
     let loaded_start : h.raised.loaded.start ≡ start = ap (λ (f : Fixed). f.start) (offset_fixed z v w raw h.step h.raised) ∙ home.start_is in
     let over : IsNotBelow h.step.old (seen_of o base z.cpu seen) =
     over_seen start base seen h.raised.loaded v.view z.cpu h.step.old loaded_start home.start_is all h.raised.raises.range h.raised.not_below in
-    let word_is : h.step.word ≡ z.cpu = ap (λ (s : Step). s.word) h.raised.step_is ∙ ap cpu_of home.kind_is in
+    let word_is : h.step.word ≡ z.cpu = ap (λ (s : Step). s.word) h.raised.step_is ∙ home.cpu_is in
     let had : HadValue start w.view.seen z.cpu new =
     subst (λ k. HadValue start w.view.seen k new) word_is (subst (HadValue start w.view.seen h.step.word) h.new_is (step_shown start h.raised.loaded w.view h.step h.raised.raises)) in
     (subst (λ x. IsNotBelow x (seen_of o base z.cpu seen)) h.old_is over, sees_added start base seen w.view.seen z.cpu new later.0 had later.1)

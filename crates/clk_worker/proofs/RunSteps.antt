@@ -10,7 +10,6 @@ use Rattle.clk_words.specs.declared.step.Why.{Why}
 use Rattle.clk_words.specs.declared.step.Why.TheVariants.{Raise}
 use Rattle.clk_words.specs.declared.step.Why.TheVariants as why
 use Rattle.clk_words.specs.declared.view.View.{View}
-use Rattle.clk_words.specs.Kinds.{cpu_of}
 use Rattle.clk_words.specs.LowerWord.{is_lower}
 use Rattle.clk_words.specs.Targets.{target}
 use Rattle.clk_machine.specs.declared.reading.RawReading.{RawReading}
@@ -62,7 +61,7 @@ local_step : (z : Site) (start : Start) (thread : ℕ) (v w : Known) (raw : RawR
 local_step z start thread v w raw tick_raw tick_gtod offset old new home h =
     let is = h.raised.step_is in
     same_fields h.step (thread + 1) z.call z.cpu (Raise raw.ns tick_raw tick_gtod offset) old new
-    (ap (λ (s : Step). s.by) is ∙ home.number_is) (ap (λ (s : Step). s.call) is) (ap (λ (s : Step). s.word) is ∙ ap cpu_of home.kind_is) h.why_is h.old_is h.new_is
+    (ap (λ (s : Step). s.by) is ∙ home.number_is) (ap (λ (s : Step). s.call) is) (ap (λ (s : Step). s.word) is ∙ home.cpu_is) h.why_is h.old_is h.new_is
 
 pub couple_why : (z : Site) (v w : Known) (asked : ℕ) (own other : ℤ) (word : ℕ) (old new : ℤ) (h : ShowsCouple z v asked own other word old new w)
     → h.step.why ≡ why.Couple (named_word z.cpu asked word) (named_value asked own other word)

@@ -27,7 +27,7 @@ use Rattle.clk_trace.specs.declared.event.EventKind.{EventKind}
 use Rattle.clk_trace.specs.declared.event.EventKind.TheVariants.{Local, Couple, Stamp}
 use Rattle.clk_worker.specs.Running.{at_call, IsSound, kinds_of_why, kinds_of_step, kinds_of_reading, kinds_of_tick, HasLooked, Runs}
 use Rattle.clk_worker.specs.Calling.{kinds_of_remote, Spends}
-use Rattle.clk_worker.proofs.Sounding.{same_sound, raised_sound, stamp_sound}
+use Rattle.clk_worker.proofs.Sounding.{OwnsLatch, same_sound, raised_sound, stamp_sound, same_latch, raised_latch, stamp_latch}
 
 pub runs-append : (z : Site) (v : Known) (es : List Event) (u : Known) (fs : List Event) (w : Known) → Runs z v es u → Runs z u fs w → Runs z v (es ++ fs) w
 runs-append z v [] u fs w r s = rw r s
@@ -60,11 +60,12 @@ raised_start z v w raw step h =
     ∙ ap (λ (x : View). x.start) h.finds.second.finds.view_is
     ∙ ap (λ (x : View). x.start) h.finds.first.finds.view_is
 
--- events of these kinds took the seats from v to w, by so many tickets, and the seats stay sound
+-- events of these kinds took the seats from v to w, by so many tickets, and the seats stay sound, and an owner's
 pub record Showed (z : Site) (share call tickets : ℕ) (kinds : List EventKind) (v w : Known) : Type 0 where
   pub runs : Runs z v (events_at call kinds) w
   pub spends : Spends tickets 0 v w
   pub sound : IsSound z share w
+  pub latch : OwnsLatch z v → OwnsLatch z w
 
 showed_both : (z : Site) (share call a b : ℕ) (ks ls : List EventKind) (v u w : Known) → Showed z share call a ks v u → Showed z share call b ls u w
     → events_at call (ks ++ ls) ≡ events_at call ks ++ events_at call ls → Showed z share call (a + b) (ks ++ ls) v w
@@ -73,6 +74,7 @@ showed_both z share call a b ks ls v u w p q same =
       runs = rw same (runs-append z v (events_at call ks) u (events_at call ls) w p.runs q.runs);
       spends = spends_both a 0 b 0 v u w p.spends q.spends;
       sound = q.sound;
+      latch = λ own. q.latch (p.latch own);
     }
 
 -- a reading is one local event, which is that of a tick after a stamp, and that of a remote reading before a coupling
@@ -104,6 +106,7 @@ showed_step z share call v t w raw step sound left looks h =
         runs = (t, w, looks, record { step = step; raised = h; why_is = why; old_is = refl; new_is = refl }, refl);
         spends = record { tickets_left = omega (arith, drawn, before, left); updates_left = omega (arith, same, budget) };
         sound = raised_sound z share call t w raw step (same_sound z share v t looks.epoch_is looks.time_is sound) h;
+        latch = λ own. raised_latch z call t w raw step h (same_latch z v t looks.epoch_is looks.time_is own);
       };
     }
 
@@ -142,6 +145,7 @@ on_remote z share call asked v t w (Coupled raw local own other step) sound left
           (u, w, no_look u, record { step = step; coupled = h.couples; within = low; apart = apart; word_is = refl; old_is = refl; new_is = refl }, refl);
       spends = record { tickets_left = omega (arith, drawn); updates_left = omega (arith, budget) };
       sound = same_sound z share u w h.couples.epoch_is h.couples.time_is first.showed.sound;
+      latch = same_latch z u w h.couples.epoch_is h.couples.time_is;
     } in
     record {
       kind = first.kind;
@@ -183,6 +187,7 @@ on_tick z share call v t w (Ticked gtod_ticket gtod stamp raw step) sound left i
       runs = (t, u, looks, h.stamps, refl);
       spends = record { tickets_left = omega (arith, before, first, second, left); updates_left = omega (arith, kept, budget) };
       sound = still;
+      latch = λ own. stamp_latch z call t u gtod_ticket gtod stamp h.stamps (same_latch z v t looks.epoch_is looks.time_is own);
     } in
     record {
       stamp = kind;

@@ -1,13 +1,13 @@
 -- What one word of a script asks of a thread and makes of it: the context of its calls, and the events that are kept.
-use Rattle.std.specs.Prelude.{◌≡◌, ℕ, ◌+◌, ◌≤◌, List, [], ◌∷◌, ◌++◌, length, slice_index_or, if◌then◌else◌}
+use Rattle.std.specs.Prelude.{◌≡◌, ℕ, ◌+◌, ◌≤◌, List, [], ◌∷◌, ◌++◌, length, slice_index_or, ◌⊎◌, if◌then◌else◌}
 use Rattle.clk_num.specs.Listed.{Listed}
 use Rattle.clk_ticket.specs.Time.{share_of}
 use Rattle.clk_words.specs.declared.opening.Mode.TheVariants.{PerCpu}
-use Rattle.clk_machine.specs.Limits.{is_update}
+use Rattle.clk_machine.specs.Limits.{IsOfReader, is_update}
 use Rattle.clk_machine.specs.Tickets.{tickets_of}
 use Rattle.clk_machine.specs.declared.script.Word.{Word}
 use Rattle.clk_latch.specs.Epoch.{Place}
-use Rattle.clk_local.specs.Context.{Site, Known, site_of, known_of, IsUsable, MayStamp}
+use Rattle.clk_local.specs.Context.{Site, Known, site_of, known_of, IsUsable}
 use Rattle.clk_local.specs.declared.context.Ctx.{Ctx}
 use Rattle.clk_remote.specs.declared.event.RemoteEvent.{RemoteEvent}
 use Rattle.clk_remote.specs.declared.event.RemoteEvent.TheVariants.{Stable, Coupled}
@@ -16,7 +16,7 @@ use Rattle.clk_trace.specs.declared.event.Event.{Event}
 use Rattle.clk_trace.specs.declared.event.EventKind.{EventKind}
 use Rattle.clk_trace.specs.declared.event.EventKind.TheVariants.{Couple}
 use Rattle.clk_trace.specs.declared.event.EventKind.TheVariants as kind
-use Rattle.clk_worker.specs.Running.{kinds_of_step, IsSound, Runs}
+use Rattle.clk_worker.specs.Running.{kinds_of_step, IsSound, OwnsClock, Runs}
 use Rattle.clk_worker.specs.declared.shared.Shared.{Shared}
 use Rattle.clk_worker.specs.declared.own.Post.{Post}
 use Rattle.clk_worker.specs.declared.own.Own.{Own}
@@ -55,12 +55,19 @@ pub record IsContext (s : Shared) (p : Post) (call : ℕ) (o : Own) (ctx : Conte
   pub epochs : ctx.epochs.now ≡ slice_index_or s.epochs.items p.cpu ctx.epochs.now
   pub tickets : ctx.tickets.now ≡ s.tickets
 
--- a context of a CPU's own thread, whose clock is per-CPU from the start, with so many of the run's tickets
+-- a context of a thread whose clock is per-CPU from the start, with so many of the run's tickets
 pub record Serves (share : ℕ) (ctx : Context) : Type 0 where
   pub percpu : ctx.seat.view.start.opening.mode ≡ PerCpu
   pub usable : IsUsable (λ l s. s.latch ≡ l) (λ s. s.epoch) ctx
-  pub may_stamp : MayStamp ctx.seat.view
   pub sound : IsSound (site_of ctx) share (known ctx)
+
+-- its thread is its CPU's own
+abbrev pub IsOfOwner : Context → Type 0
+IsOfOwner ctx = OwnsClock (site_of ctx) (known ctx)
+
+-- it may make this word: any thread may make those of a reader
+abbrev pub MayMake : Word → Context → Type 0
+MayMake word ctx = IsOfReader word ⊎ IsOfOwner ctx
 
 -- the same objects, at the same site
 pub record StandsOn (v w : Context) : Type 0 where
@@ -93,7 +100,7 @@ abbrev pub updates_in : Word → ℕ
 updates_in word = if is_update word then 1 else 0
 
 -- a context and the events that were kept make this word: the events that it calls for, three at most, which took the seats
--- on, within the word's tickets and updates
+-- on, within the word's tickets and updates; what owned its CPU's clock owns it after
 pub record Makes (word : Word) (v : Context) (a : Listed Event) (w : Context) (b : Listed Event) : Type 0 where
   pub kinds : List EventKind
   pub calls : Calls v.counter.cpu word kinds
@@ -103,3 +110,4 @@ pub record Makes (word : Word) (v : Context) (a : Listed Event) (w : Context) (b
   pub spends : Spends (tickets_of word) (updates_in word) (known v) (known w)
   pub stands : StandsOn v w
   pub serves : Serves (share_of v.time) w
+  pub owner : IsOfOwner v → IsOfOwner w

@@ -9,16 +9,15 @@ use Rattle.clk_words.specs.Held.{place_of}
 use Rattle.clk_words.specs.Histories.{opens_at}
 use Rattle.clk_words.specs.Kinds.{cpu_of}
 use Rattle.clk_words.specs.Knowing.{IsReading}
-use Rattle.clk_machine.specs.Plan.{cpu_count, thread_at}
+use Rattle.clk_machine.specs.Plan.{cpu_count, threads_of, thread_at}
 use Rattle.clk_machine.specs.Limits.{IsWithinLimits}
 use Rattle.clk_machine.specs.Records.{above_base}
 use Rattle.clk_machine.specs.Tickets.{tickets_of}
 use Rattle.clk_machine.specs.declared.script.Word.{Word}
-use Rattle.clk_local.specs.Context.{MayStamp}
 use Rattle.clk_trace.specs.ScriptEvents.{Calls, events_at, AreEventsOf}
 use Rattle.clk_trace.specs.declared.event.Event.{Event}
 use Rattle.clk_trace.specs.declared.event.EventKind.{EventKind}
-use Rattle.clk_worker.specs.Running.{IsSound, Runs}
+use Rattle.clk_worker.specs.Running.{IsSound, OwnsClock, Runs}
 use Rattle.clk_worker.specs.Calling.{Context, site_at, has, HasSeatsOf, IsContext, updates_in, Makes}
 use Rattle.clk_worker.specs.declared.shared.Shared.{Shared}
 use Rattle.clk_worker.specs.declared.own.Post.{Post}
@@ -51,10 +50,11 @@ pub record FitTogether (s : Shared) : Type 0 where
   pub opening : IsFrom0To (2 ^ 57) (above_base s.machine (opens_at s.words.start))
   pub percpu : s.words.start.opening.mode ≡ PerCpu
 
--- the seats serve the own thread of a CPU, with so many of the run's tickets, drawn or left
+-- the seats serve a thread of the machine on its CPU, with so many of the run's tickets, drawn or left
 pub record SeatsServe (s : Shared) (p : Post) (share : ℕ) (o : Own) : Type 0 where
   pub shared : FitTogether s
-  pub own_thread : p.thread ≡ p.cpu
+  pub thread : p.thread < length (threads_of s.machine)
+  pub stands : p.cpu ≡ (thread_at s.machine p.thread).0
   pub cpu : p.cpu < cpu_count s.machine
   pub near : IsNear 47 p.adjust
   pub offset : IsNear 59 p.sched_offset
@@ -63,8 +63,9 @@ pub record SeatsServe (s : Shared) (p : Post) (share : ℕ) (o : Own) : Type 0 w
   pub of_tickets : o.time.table ≡ s.tickets.table
   pub reading : IsReading o.seat.view.kind
   pub cpu_is : p.cpu ≡ cpu_of o.seat.view.kind
-  pub may_stamp : MayStamp o.seat.view
   pub sound : IsSound (site_at s p 0) share (has o)
+  -- a CPU's own thread owns its clock
+  pub owner : p.thread < cpu_count s.machine → OwnsClock (site_at s p 0) (has o)
 
 -- what the words from n on need is left: of tickets, of updates, and of room for three events a word
 pub record HasEnough (s : Shared) (p : Post) (n : ℕ) (o : Own) (events : Listed Event) : Type 0 where

@@ -10,7 +10,7 @@ use Rattle.clk_machine.specs.Records.{AreRecords}
 use Rattle.clk_machine.specs.declared.reading.RawReading.{RawReading}
 use Rattle.clk_machine.specs.declared.reading.Published.{Published}
 use Rattle.clk_latch.specs.Calls.{AreDrawn, DrawsTicket, Updates}
-use Rattle.clk_local.specs.Context.{Site, Known, looked_as}
+use Rattle.clk_local.specs.Context.{Site, Known, BeginsAtBase, MayStamp, looked_as}
 use Rattle.clk_local.specs.Shows.{ShowsRaised, ShowsStamp}
 use Rattle.clk_local.specs.declared.events.Reading.{Reading}
 use Rattle.clk_local.specs.declared.events.Reading.TheVariants.{Stable, PerCpu}
@@ -26,14 +26,19 @@ use Rattle.clk_trace.specs.declared.event.EventKind.TheVariants as kind
 abbrev pub at_call : Site → ℕ → Site
 at_call z call = record z { call = call }
 
--- an owner's seats: the owner's of the latch, with the records of its CPU, and one that has this share of the run's tickets,
--- drawn or left
+-- a thread's seats: its records begin at the machine's base, and it has this share of the run's tickets, drawn or left
 pub record IsSound (z : Site) (share : ℕ) (v : Known) : Type 0 where
+  pub base : BeginsAtBase z.machine v.epoch
+  pub share_is : share_of v.time ≡ share
+  pub rises : Rises v.time.blocks
+
+-- those of a CPU's own thread own its clock besides: they may stamp, and the latch's is the owner's, with the records of the
+-- CPU, of which each after record 0 has a ticket of this thread
+pub record OwnsClock (z : Site) (v : Known) : Type 0 where
+  pub may_stamp : MayStamp v.view
   pub owner : v.epoch.owner ≡ true
   pub records : AreRecords z.machine z.cpu z.adjust v.epoch.records
   pub drawn : AreDrawn v.time.blocks v.epoch.records
-  pub share_is : share_of v.time ≡ share
-  pub rises : Rises v.time.blocks
 
 -- ---- the events that a thread keeps of what a call answered
 

@@ -1,9 +1,9 @@
-//! The calls of a CPU's own thread, one for each kind of script word.
+//! The calls of a thread, one for each kind of script word.
 ghost use Rattle.std.specs.Prelude.{◌≢◌, ◌^◌, ◌<◌, ◌≤◌, pos, length};
 ghost use Rattle.clk_ticket.specs.Time.{share_of};
 ghost use Rattle.clk_machine.specs.Limits.{IsInRange};
 ghost use Rattle.clk_machine.specs.Tickets.{tickets_of};
-ghost use Rattle.clk_worker.specs.Calling.{updates_in, Serves, Makes};
+ghost use Rattle.clk_worker.specs.Calling.{updates_in, Serves, IsOfOwner, MayMake, Makes};
 ghost use Rattle.clk_worker.specs.Making.{script_of, SeatsServe, HasEnough, MakesAt};
 
 use crate::keep::{keep, keep_reading, keep_remote, keep_tick};
@@ -38,6 +38,7 @@ pub(crate) fn make_at(
 // One word of a script.
 fn make(ctx: &mut Ctx<'_, Latch>, events: &mut List<Event>, word: Word)
     requires serves { Serves (share_of ctx.old.time) ctx.old }
+    requires allowed { MayMake word ctx.old }
     requires range { IsInRange ctx.old.words.now.start.cpus word }
     requires cpus { ctx.old.words.now.start.cpus < 2 ^ 32 }
     requires left { tickets_of word ≤ ctx.old.time.left }
@@ -96,9 +97,10 @@ fn read_other(ctx: &mut Ctx<'_, Latch>, events: &mut List<Event>, asked: u32)
     keep_remote(events, call, asked, &event);
 }
 
-// A tick.
+// A tick of the own CPU.
 fn make_tick(ctx: &mut Ctx<'_, Latch>, events: &mut List<Event>)
     requires serves { Serves (share_of ctx.old.time) ctx.old }
+    requires owner { IsOfOwner ctx.old }
     requires left { 3 ≤ ctx.old.time.left }
     requires room { 2 ≤ events.old.room }
     ensures { Makes Word.Tick ctx.old events.old ctx.new events.new }
@@ -111,6 +113,7 @@ fn make_tick(ctx: &mut Ctx<'_, Latch>, events: &mut List<Event>)
 // An idle event: a reading, and a tick.
 fn make_idle(ctx: &mut Ctx<'_, Latch>, events: &mut List<Event>)
     requires serves { Serves (share_of ctx.old.time) ctx.old }
+    requires owner { IsOfOwner ctx.old }
     requires left { 4 ≤ ctx.old.time.left }
     requires room { 3 ≤ events.old.room }
     ensures { Makes Word.Idle ctx.old events.old ctx.new events.new }
@@ -121,9 +124,10 @@ fn make_idle(ctx: &mut Ctx<'_, Latch>, events: &mut List<Event>)
     keep_tick(events, call, &tick);
 }
 
-// An update of the latch.
+// An update of the own CPU's latch.
 fn update(ctx: &mut Ctx<'_, Latch>, events: &mut List<Event>)
     requires serves { Serves (share_of ctx.old.time) ctx.old }
+    requires owner { IsOfOwner ctx.old }
     requires left { 1 ≤ ctx.old.time.left }
     requires updates { 1 ≤ ctx.old.latch_seat.epoch.left }
     requires room { 1 ≤ events.old.room }

@@ -10,8 +10,12 @@
 //! things it may go on, so that a call asks for those alone. No call takes memory: the list of events has room for the
 //! whole script, three events a word.
 //!
-//! It promises no order between the workers of a run beyond the history of the clock words. So far a worker is a CPU's own
-//! thread, and its clock is per-CPU from the start.
+//! A worker is a CPU's own thread, or a reader: a thread besides it on that CPU, as an interrupt that reads half-way through
+//! the CPU's tick. A reader reads clocks and pauses, and the pair that it goes by may have a GTOD newer than its raw half,
+//! never an older one.
+//!
+//! It promises no order between the workers of a run beyond the history of the clock words. So far the clock is per-CPU from
+//! the start.
 //!
 //! How it works: a word takes the seats out of the worker, puts them with the shared things into the context of a call,
 //! keeps the call's answer as events, and puts the seats back.

@@ -1,6 +1,7 @@
 //! The program `clock_tool`: the scheduler clock of a machine that a file describes.
 //!
-//! `clock_tool run` reads a machine file from standard input, runs it, and writes its trace to standard output.
+//! `clock_tool run` reads a machine file from standard input, brings its CPUs up, runs it, and writes its trace to standard
+//! output.
 //! `clock_tool rate HZ BITS` reads nothing, and writes the rate of the scheduler clock for a counter of so many Hz and
 //! bits. The program ends with the status of the answer, and prints one line on standard error for every status but 0.
 //! All that matters is in the library `clk_tool`: here its top call is given the standard streams and the open gate.

@@ -1,7 +1,7 @@
 use Rattle.std.proofs.Common.{◌≡◌, true, false, List, [], ◌∷◌, ◌++◌, refl, sym, ap, ◌∙◌, subst, rules, FitsSigned, w64, to_z-of_z}
-use Rattle.clk_trace.specs.declared.trace.StableStamp.{StableStamp}
-use Rattle.clk_threads.specs.Booting.{gtod_offset_of, AreStamps, HasDrawnFirst}
-use Rattle.clk_threads.proofs.Stamping.{stable_offset_is, one_stamp, one_drawn, with_offset, two_stamps, two_drawn}
+use Rattle.clk_demote.specs.declared.events.StableStamp.{StableStamp}
+use Rattle.clk_threads.specs.Booting.{gtod_offset_of, AreStamps}
+use Rattle.clk_threads.proofs.Stamping.{stable_offset_is, Drew, one_stamp, one_drawn, with_offset, two_stamps, two_drawn}
 use Rattle.clk_threads.proofs.booted.start.Goals as goal
 
 pub returns-then-not-starts_stable : goal.returns-then-not-starts_stable
@@ -14,11 +14,13 @@ returns-then-not-starts_stable c =
     let percpu : m.stable ≡ false = sym c.starts_stable.ensures ∙ c.if-not-starts_stable.true in
     let items : c.push.new.self.items ≡ first ∷ [] = c.push.ensures.items ∙ ap (λ (xs : List StableStamp). xs ++ first ∷ []) c.requires.stamps.0 in
     let fits : FitsSigned w64 first.offset = search rules in
+    let drew =
+    subst (λ (xs : List StableStamp). Drew m c.args.tickets.now xs time) (sym items)
+    (one_drawn m c.args.tickets.now c.args.time.now time epoch first percpu c.requires.time stamped) in
     record {
       stamps = subst (AreStamps m) (sym items) (one_stamp m c.args.time.now time epoch first percpu stamped);
-      drawn =
-          subst (λ (xs : List StableStamp). HasDrawnFirst m c.args.tickets.now xs time) (sym items)
-          (one_drawn m c.args.tickets.now c.args.time.now time epoch first percpu c.requires.time stamped);
+      drawn = drew.drawn;
+      left = drew.left;
       sched_offset = rw percpu refl;
       gtod_offset = to_z-of_z fits ∙ stamped.offset ∙ ap gtod_offset_of (sym items);
     }
@@ -43,11 +45,13 @@ returns c =
     let items : c.push-2.new.self.items ≡ first ∷ with_offset first.offset second ∷ [] =
     last ∙ ap (λ (xs : List StableStamp). xs ++ with_offset first.offset second ∷ []) front in
     let sched = stable_offset_is second.gtod first.offset second.raw.ns gtod fits raw in
+    let drew =
+    subst (λ (xs : List StableStamp). Drew m c.args.tickets.now xs time) (sym items)
+    (two_drawn m c.args.tickets.now c.args.time.now middle time began epoch first second stable c.requires.time stamped again) in
     record {
       stamps = subst (AreStamps m) (sym items) (two_stamps m c.args.time.now middle time began epoch first second stable stamped again);
-      drawn =
-          subst (λ (xs : List StableStamp). HasDrawnFirst m c.args.tickets.now xs time) (sym items)
-          (two_drawn m c.args.tickets.now c.args.time.now middle time began epoch first second stable c.requires.time stamped again);
+      drawn = drew.drawn;
+      left = drew.left;
       sched_offset = rw (items, stable, sym stamped.offset) sched;
       gtod_offset = to_z-of_z fits ∙ stamped.offset ∙ ap gtod_offset_of (sym items);
     }

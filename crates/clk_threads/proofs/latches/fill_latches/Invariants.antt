@@ -9,5 +9,5 @@ invariant-loop l = record {
   latches : map (λ s. s.latch) l.seats.items ≡ l.epochs.items;
   owners : All (λ s. s.epoch ≡ owner_of l.zero 1024) l.seats.items;
   epochs_room : l.cpus ≤ l.epochs.room + l.counter;
-  seats_room : l.cpus ≤ l.seats.room + l.counter;
+  seats_room : l.seats.room + l.counter ≡ l.initial.seats.room;
 }

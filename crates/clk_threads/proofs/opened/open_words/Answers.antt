@@ -1,9 +1,8 @@
 use Rattle.std.proofs.Common.{◌≡◌, ℕ, ℤ, sym, ap, ◌∙◌, subst, rules, FitsSigned, w64, to_z-of_z}
 use Rattle.clk_words.specs.declared.opening.Opening.{Opening}
 use Rattle.clk_words.specs.Bounds.{IsOpening}
-use Rattle.clk_words.specs.Views.{first_view}
 use Rattle.clk_machine.specs.Plan.{cpu_count}
-use Rattle.clk_threads.specs.Preparing.{start_of, gave, owner_seats}
+use Rattle.clk_threads.specs.Preparing.{start_of}
 use Rattle.clk_threads.proofs.opened.open_words.Goals as goal
 
 pub new-requires-clause-opening : goal.new-requires-clause-opening
@@ -25,6 +24,6 @@ returns c =
     ∙ ap (λ (o : Opening). record { cpus = cpu_count m; tick = m.tick; opening = o }) c.opening_by-opening.ensures in
     record {
       start = start;
-      owners = c.split_owners-owners.ensures.owners ∙ ap (owner_seats words) cpus;
-      first = c.split_owners-owners.ensures.first ∙ ap (λ (n : ℕ). record { table = words.table; view = gave n (first_view words.start) }) cpus;
+      seats = c.split_seats-seats.ensures.seats;
+      first = c.split_seats-seats.ensures.first;
     }

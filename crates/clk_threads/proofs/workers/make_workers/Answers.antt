@@ -13,8 +13,8 @@ loop-preserved c =
     let both = length-append c.loop.workers.items (c.pop.result ∷ []) in
     record {
       way =
-          subst (λ (hs : List Hand). AreOnWay off c.args.seats c.pop.new.self hs) (sym items)
-          (way_more off c.args.seats c.loop.seats c.pop.new.self c.loop.workers.items c.pop.result c.loop.invariant.way c.pop.ensures);
+          subst (λ (hs : List Hand). AreOnWay c.args.machine.now c.args.adjusts.now.items off c.args.seats c.pop.new.self hs) (sym items)
+          (way_more c.args.machine.now c.args.adjusts.now.items off c.args.seats c.loop.seats c.pop.new.self c.loop.workers.items c.pop.result c.loop.invariant.way c.pop.ensures);
       count = rw items (omega (arith, both, count));
       room = omega (arith, room, before);
     }

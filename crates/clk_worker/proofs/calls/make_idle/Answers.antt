@@ -2,7 +2,7 @@ use Rattle.std.proofs.Common.{[], ◌∷◌, arith, subst}
 use Rattle.clk_ticket.specs.Time.{share_of}
 use Rattle.clk_local.specs.Context.{site_of}
 use Rattle.clk_worker.specs.Calling.{known, KeepsEvents}
-use Rattle.clk_worker.proofs.Making.{serves_after, stands_after, keeps_both}
+use Rattle.clk_worker.proofs.Making.{serves_after, owns_after, stands_after, keeps_both}
 use Rattle.clk_worker.proofs.Showing.{showed_idle}
 use Rattle.clk_worker.proofs.calls.make_idle.Goals as goal
 
@@ -27,4 +27,5 @@ returns c =
       spends = showed.showed.spends;
       stands = stands_after v u told.keeps;
       serves = serves_after (share_of v.time) v u ready told.keeps showed.showed.sound;
+      owner = owns_after v u told.keeps showed.showed.latch;
     }

@@ -4,7 +4,7 @@ use Rattle.clk_trace.specs.declared.event.EventKind.TheVariants.{Pause}
 use Rattle.clk_local.specs.Context.{site_of}
 use Rattle.clk_worker.specs.Calling.{known}
 use Rattle.clk_worker.proofs.Showing.{no_look}
-use Rattle.clk_worker.proofs.Sounding.{draws_sound}
+use Rattle.clk_worker.proofs.Sounding.{draws_sound, draws_latch}
 use Rattle.clk_worker.proofs.calls.pause.Goals as goal
 
 pub returns : goal.returns
@@ -37,7 +37,9 @@ returns c =
           base = ready.usable.base;
           opening = ready.usable.opening;
         };
-        may_stamp = ready.may_stamp;
         sound = draws_sound (site_of v) (share_of v.time) (known v) _ _ _ ready.sound drew;
       };
+      owner = λ own.
+          let latch = draws_latch (site_of v) (known v) _ _ _ (record { owner = own.owner; records = own.records; drawn = own.drawn }) drew in
+          record { may_stamp = own.may_stamp; owner = latch.owner; records = latch.records; drawn = latch.drawn };
     }

@@ -2,7 +2,7 @@ use Rattle.std.proofs.Common.{[], ◌∷◌, arith}
 use Rattle.clk_ticket.specs.Time.{share_of}
 use Rattle.clk_local.specs.Context.{site_of}
 use Rattle.clk_worker.specs.Calling.{known}
-use Rattle.clk_worker.proofs.Making.{serves_after, stands_after}
+use Rattle.clk_worker.proofs.Making.{serves_after, owns_after, stands_after}
 use Rattle.clk_worker.proofs.Showing.{showed_reading}
 use Rattle.clk_worker.proofs.calls.read.Goals as goal
 
@@ -23,4 +23,5 @@ returns c =
       spends = showed.showed.spends;
       stands = stands_after v u told.keeps;
       serves = serves_after (share_of v.time) v u ready told.keeps showed.showed.sound;
+      owner = owns_after v u told.keeps showed.showed.latch;
     }

@@ -4,7 +4,7 @@ use Rattle.clk_words.specs.Held.{Place}
 use Rattle.clk_words.specs.declared.opening.Start.{Start}
 use Rattle.clk_local.specs.Context.{site_of}
 use Rattle.clk_worker.specs.Calling.{known}
-use Rattle.clk_worker.proofs.Making.{serves_after, stands_after, calls_other}
+use Rattle.clk_worker.proofs.Making.{serves_after, owns_after, stands_after, calls_other}
 use Rattle.clk_worker.proofs.Showing.{showed_remote}
 use Rattle.clk_worker.proofs.calls.read_other.Goals as goal
 
@@ -27,4 +27,5 @@ returns c =
       spends = showed.showed.spends;
       stands = stands_after v u told.keeps;
       serves = serves_after (share_of v.time) v u ready told.keeps showed.showed.sound;
+      owner = owns_after v u told.keeps showed.showed.latch;
     }

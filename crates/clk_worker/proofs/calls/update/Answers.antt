@@ -40,7 +40,13 @@ returns c =
           base = sound_base _ _ _ _ told.updates.records;
           opening = ready.usable.opening;
         };
-        may_stamp = ready.may_stamp;
-        sound = updates_sound (site_of v) (share_of v.time) (known v) _ _ _ ready.sound told.updates told.draws told.drawn;
+        sound = updates_sound (site_of v) (share_of v.time) (known v) _ _ _ ready.sound told.updates told.draws;
       };
+      owner = λ own.
+          record {
+            may_stamp = own.may_stamp;
+            owner = ap (λ (e : Epoch). e.owner) told.updates.is ∙ own.owner;
+            records = told.updates.records;
+            drawn = told.drawn;
+          };
     }

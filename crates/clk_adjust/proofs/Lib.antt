@@ -1,0 +1,6 @@
+pub mod Counters
+pub mod Sizes
+pub mod Few
+pub mod Drawing
+pub mod Going
+pub mod Climbing

@@ -1,0 +1,3 @@
+pub mod BroughtUp
+pub mod Tickets
+pub mod Outcomes

@@ -1,0 +1,39 @@
+-- The tickets of a bring-up.
+use Rattle.std.specs.Prelude.{ℕ, ◌-◌, ◌*◌, ℤ, List, flat_map, Option, Some, None}
+use Rattle.std.specs.List.{All}
+use Rattle.clk_ticket.specs.Time.{Time}
+use Rattle.clk_machine.specs.declared.parts.BringUpPart.{BringUpPart}
+use Rattle.clk_machine.specs.Plan.{Plan, cpu_count}
+use Rattle.clk_warp.specs.declared.side.WarpReading.{WarpReading}
+use Rattle.clk_warp.specs.declared.side.WarpRun.{WarpRun}
+use Rattle.clk_warp.specs.Run.{most_readings}
+use Rattle.clk_warp.specs.Pairs.{DrawsFor}
+use Rattle.clk_adjust.specs.declared.up.CpuUp.{CpuUp}
+use Rattle.clk_adjust.specs.BroughtUp.{most_runs, IsRunOf}
+
+-- the readings of some runs, and those of some CPUs, in order
+abbrev pub readings_in : List WarpRun → List WarpReading
+readings_in runs = flat_map (λ run. run.readings.items) runs
+
+abbrev pub all_readings : List CpuUp → List WarpReading
+all_readings ups = flat_map (λ up. readings_in up.runs.items) ups
+
+-- the most that the test of a CPU draws, and those of all CPUs but the first
+abbrev pub cpu_tickets : Plan → Option BringUpPart → ℕ
+cpu_tickets m None = 0
+cpu_tickets m (Some part) = most_runs part * most_readings m
+
+abbrev pub up_tickets : Plan → ℕ
+up_tickets m = (cpu_count m - 1) * cpu_tickets m m.bringup
+
+-- a finished warp run of the machine
+pub record IsMade (m : Plan) (run : WarpRun) : Type 0 where
+  pub cpu : ℕ
+  pub adjust : ℤ
+  pub is : IsRunOf m cpu adjust run
+
+-- the tickets of the readings of some finished runs, and no others, were drawn
+pub record HasDrawn (m : Plan) (before now : Time) : Type 0 where
+  pub runs : List WarpRun
+  pub made : All (IsMade m) runs
+  pub draws : DrawsFor before (readings_in runs) now
