@@ -12,7 +12,8 @@ use Rattle.clk_demote.specs.Demotions.{IsDemotion}
 use Rattle.clk_demote.specs.Lifts.{lifts_of, lifted}
 use Rattle.clk_demote.specs.Shows.{TakesStamp, ShowsStamp, ShowsDemotion}
 use Rattle.clk_demote.specs.Stamping.{with_pair, pair_stored, pairs_stored}
-use Rattle.clk_demote.proofs.Copying.{pairs_keep}
+use Rattle.clk_demote.proofs.Copying.{pairs_keep, has_pair}
+use Rattle.clk_demote.proofs.Lifting.{words_raised}
 
 -- a demotion by what still stood
 pub still_demotion : (sched_offset gtod_offset was_sched was_gtod : ℤ) (stable was : StableStamp) (d : Demotion) → IsDemotion sched_offset gtod_offset stable d
@@ -44,6 +45,8 @@ shows_demotion z cpu check n v mid gtod_ticket gtod raw d w stamps same_ticket s
   is = is;
   view_is = view;
   good = good;
+  pairs = λ c low. has_pair (cpu_count z.machine) d.gtod d.raw.ns (with_pair cpu d.gtod d.raw.ns v.view.modes) w c (ap (λ (u : View). u.pairs.parts) view) low;
+  words = λ c low. words_raised v.view w check d.opening (cpu_count z.machine) c (ap (λ (u : View). u.start) view) (ap (λ (u : View). u.seen) view) low;
   offset_stands = ap (λ (u : View). u.modes.offset) view
       ∙ (pairs_keep (cpu_count z.machine) d.gtod d.raw.ns (with_pair cpu d.gtod d.raw.ns v.view.modes)).2
       ∙ held ∙ ap Some (sym is.gtod_offset_is);

@@ -67,16 +67,15 @@ still_unlifted v w start seen none = λ k low. ap (λ ss. has_lift ss k) seen �
 -- seats that went on, with an offset and its stamp, may be used again
 pub still_usable : {E S : Type 0} (fits : E → S → Type 0) (epoch : S → Epoch) (ctx : WatchCtx E S) (seat : Held) (latch_seats : Listed S) (time : Time) (gtod_offset : ℤ) (last : StableStamp)
     → IsUsable fits epoch ctx → place_of seat ≡ ctx.words.now → AllZip fits ctx.epochs.now.items latch_seats.items → time.table ≡ ctx.time.table
-    → seat.view.start ≡ ctx.seat.view.start → seat.view.seen ≡ ctx.seat.view.seen → IsOffset (opens_at ctx.seat.view.start) gtod_offset
+    → seat.view.start ≡ ctx.seat.view.start → seat.view.seen ≡ ctx.seat.view.seen
     → seat.view.modes.held ≡ Some gtod_offset → gtod_offset ≡ offset_by ctx.sched_offset last.gtod last.raw.ns
     → All (BeginsAtBase ctx.machine.now) (map epoch latch_seats.items)
     → IsUsable fits epoch (record ctx { seat = seat; latch_seats = latch_seats; time = time; gtod_offset = gtod_offset; last = last })
-still_usable fits epoch ctx seat latch_seats time gtod_offset last usable place latches table start seen offset held by_last base = record {
+still_usable fits epoch ctx seat latch_seats time gtod_offset last usable place latches table start seen held by_last base = record {
   seated = record { of_words = place; of_latches = latches; of_tickets = table ∙ usable.seated.of_tickets };
   of_machine = record { words = usable.of_machine.words; latches = usable.of_machine.latches; adjusts = usable.of_machine.adjusts };
   adjusts = usable.adjusts;
   sched_offset = usable.sched_offset;
-  offset = subst (λ (s : Start). IsOffset (opens_at s) gtod_offset) (sym start) offset;
   held = held;
   by_last = by_last;
   unlifted = still_unlifted ctx.seat.view seat.view start seen usable.unlifted;

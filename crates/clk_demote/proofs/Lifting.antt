@@ -13,6 +13,8 @@ use Rattle.clk_words.specs.Calls.{step_of}
 use Rattle.clk_words.specs.Histories.{opens_at, value_after, is_lift, has_lift}
 use Rattle.clk_words.specs.Knowing.{IsGood, HasLifted}
 use Rattle.clk_words.specs.Told.{Lifts}
+use Rattle.clk_words.proofs.Replay.{value_append, value_here, value_else}
+use Rattle.clk_local.specs.Raising.{shown_on}
 use Rattle.clk_demote.specs.Context.{IsUnlifted}
 use Rattle.clk_demote.specs.Lifts.{lift_of, lifts_of, lifted}
 
@@ -134,3 +136,19 @@ pub all_lifted : (v : View) (check : ℕ) (opening : ℤ) (n : ℕ) (w : View) �
 all_lifted v check opening n w is all = subst HasLifted (sym is) (λ k low.
     has_append v.seen (lifts_of v.number v.start check opening n) k
     ∙ or_second _ _ (each_before v.number v.start check opening n k (subst (λ m. k < m) all low)))
+
+-- and holds what it was raised to
+raised_at : (x : ℤ) (by : ℕ) (start : Start) (check : ℕ) (opening : ℤ) (n w : ℕ) → w < n → value_after x w (lifts_of by start check opening n) ≡ raise (opens_at start) opening
+raised_at x by start check opening zero w low = absurd (omega arith)
+raised_at x by start check opening (suc n) w low =
+    dite (ℕ_discrete n w)
+    (λ e. value_here x w (lifts_of by start check opening n) (lift_of by start check opening n) e)
+    (λ ne. value_else x w (lifts_of by start check opening n) (lift_of by start check opening n) ne ∙ raised_at x by start check opening n w (omega arith))
+
+pub words_raised : (v w : View) (check : ℕ) (opening : ℤ) (n c : ℕ) → w.start ≡ v.start → w.seen ≡ v.seen ++ lifts_of v.number v.start check opening n → c < n
+    → shown_on c w ≡ raise (opens_at v.start) opening
+words_raised v w check opening n c start seen low =
+    ap (λ (s : Start). value_after (opens_at s) c w.seen) start
+    ∙ ap (value_after (opens_at v.start) c) seen
+    ∙ value_append (opens_at v.start) c v.seen (lifts_of v.number v.start check opening n)
+    ∙ raised_at _ v.number v.start check opening n c low

@@ -10,6 +10,10 @@ use Rattle.clk_demote.specs.declared.events.Demotion.{Demotion}
 use Rattle.clk_demote.specs.declared.events.StableStamp.{StableStamp}
 use Rattle.clk_demote.specs.Demotions.{offset_by, IsDemotion, DemotionsShiftByDrift}
 
+-- a sum that was wrapped already
+wrap_first : (a b : ℤ) → wrap (wrap a -ℤ b) ≡ wrap (a -ℤ b)
+wrap_first a b = omega (arith, ints, wrapped)
+
 -- two ways from the stable stamp to the opening
 same_opening : (gtod raw sched stable_gtod stable_raw : ℤ)
     → wrap (gtod +ℤ wrap ((stable_raw +ℤ sched) -ℤ stable_gtod)) ≡ wrap ((raw +ℤ sched) -ℤ wrap (above raw stable_raw -ℤ (gtod -ℤ stable_gtod)))
@@ -23,6 +27,7 @@ shift_by_drift sched_offset gtod_offset stable d is by =
     ∙ ap (λ (s : StableStamp). wrap ((d.raw.ns +ℤ sched_offset) -ℤ wrap (above d.raw.ns s.raw.ns -ℤ (d.gtod -ℤ s.gtod)))) (sym is.stable_is)
     ∙ ap (λ x. wrap ((d.raw.ns +ℤ sched_offset) -ℤ x)) (sym is.drift_is)
     ∙ ap (λ x. wrap ((d.raw.ns +ℤ x) -ℤ d.drift)) (sym is.sched_offset_is)
+    ∙ sym (wrap_first (d.raw.ns +ℤ d.sched_offset) d.drift)
 
 -- the offset of a stable stamp is in the range of the words
 pub offset_near : (base opens raw sched gtod : ℤ) → IsFrom0To (2 ^ 57) (above opens base) → IsFrom0To (11 * 2 ^ 55) (above raw base) → IsNear 57 sched → IsGtod gtod
@@ -41,9 +46,6 @@ lift_value opens sched_offset gtod_offset stable d is bound near = record {
 }
 
 -- ---- the sums and differences of words, as the code takes them
-
-wrap_first : (a b : ℤ) → wrap (wrap a -ℤ b) ≡ wrap (a -ℤ b)
-wrap_first a b = omega (arith, ints, wrapped)
 
 wrap_second : (a b : ℤ) → wrap (a -ℤ wrap b) ≡ wrap (a -ℤ b)
 wrap_second a b = omega (arith, ints, wrapped)

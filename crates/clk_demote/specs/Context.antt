@@ -4,7 +4,6 @@ use Rattle.std.specs.List.{AllZip}
 use Rattle.clk_num.specs.Range.{IsNear, IsFrom0To}
 use Rattle.clk_ticket.specs.Time.{Time}
 use Rattle.clk_words.specs.declared.view.View.{View}
-use Rattle.clk_words.specs.Bounds.{IsOffset}
 use Rattle.clk_words.specs.Held.{place_of}
 use Rattle.clk_words.specs.Histories.{opens_at, has_lift}
 use Rattle.clk_machine.specs.Plan.{Plan, cpu_count}
@@ -57,15 +56,14 @@ pub record IsOfMachine {E S : Type 0} (ctx : WatchCtx E S) : Type 0 where
 abbrev pub IsUnlifted : View → Type 0
 IsUnlifted v = (w : ℕ) → w < v.start.cpus → has_lift v.seen w ≡ false
 
--- what every call asks of its context besides the watchdog's right: the offset of the context is in range, the one that
--- the seat's view holds, and the one of the last stable stamp; and the latches and the words begin near the machine's
--- base, so that every raw reading is near the opening of the words
+-- what every call asks of its context besides the watchdog's right: the offset of the context is the one that the seat's
+-- view holds, and the one of the last stable stamp; and the latches and the words begin near the machine's base, so that
+-- every raw reading is near the opening of the words
 pub record IsUsable {E S : Type 0} (fits : E → S → Type 0) (epoch : S → Epoch) (ctx : WatchCtx E S) : Type 0 where
   pub seated : IsSeated fits ctx
   pub of_machine : IsOfMachine ctx
   pub adjusts : All (IsNear 47) ctx.adjusts.now.items
   pub sched_offset : IsNear 57 ctx.sched_offset
-  pub offset : IsOffset (opens_at ctx.seat.view.start) ctx.gtod_offset
   pub held : ctx.seat.view.modes.held ≡ Some ctx.gtod_offset
   pub by_last : ctx.gtod_offset ≡ offset_by ctx.sched_offset ctx.last.gtod ctx.last.raw.ns
   pub unlifted : IsUnlifted ctx.seat.view

@@ -29,7 +29,7 @@ pub record IsDemotion (sched_offset gtod_offset : ℤ) (stable : StableStamp) (d
 
 -- the clock opens at the stable value of the demotion's raw reading, less the drift
 abbrev pub OpensLessDrift : Demotion → Type 0
-OpensLessDrift d = d.opening ≡ wrap ((d.raw.ns +ℤ d.sched_offset) -ℤ d.drift)
+OpensLessDrift d = d.opening ≡ wrap (stable_value d.sched_offset d.raw.ns -ℤ d.drift)
 
 -- a demotion by the offset of the last stable stamp does
 abbrev pub DemotionsShiftByDrift : Type 0

@@ -1,6 +1,7 @@
 -- What each call shows, as the lines of a trace do: a stamp, a stable stamp, and a demotion. Each is told of what the
 -- watchdog had before it and after it.
-use Rattle.std.specs.Prelude.{◌≡◌, ℕ, ℤ, pos, List, slice_index_or, Some}
+use Rattle.std.specs.Prelude.{◌≡◌, ℕ, ◌<◌, ℤ, pos, List, slice_index_or, Some}
+use Rattle.clk_num.specs.Wrapping.{raise}
 use Rattle.clk_ticket.specs.Time.{Time}
 use Rattle.clk_words.specs.Bounds.{IsGtod, IsRaw}
 use Rattle.clk_words.specs.Histories.{opens_at}
@@ -11,12 +12,13 @@ use Rattle.clk_machine.specs.Time.{gtod_at}
 use Rattle.clk_machine.specs.declared.reading.RawReading.{RawReading}
 use Rattle.clk_latch.specs.Epoch.{Epoch}
 use Rattle.clk_latch.specs.Calls.{DrawsTicket}
+use Rattle.clk_local.specs.Raising.{shown_on}
 use Rattle.clk_demote.specs.declared.events.StableStamp.{StableStamp}
 use Rattle.clk_demote.specs.declared.events.Demotion.{Demotion}
 use Rattle.clk_demote.specs.Context.{Site, Known}
 use Rattle.clk_demote.specs.Demotions.{offset_by, IsDemotion}
 use Rattle.clk_demote.specs.Lifts.{lifts_of, lifted}
-use Rattle.clk_demote.specs.Stamping.{ReadsAt, pair_stored, pairs_stored}
+use Rattle.clk_demote.specs.Stamping.{ReadsAt, HasPair, pair_stored, pairs_stored}
 
 -- the adjustment of a CPU's counter
 abbrev pub adjust_at : Site → ℕ → ℤ
@@ -53,6 +55,9 @@ pub record ShowsDemotion (z : Site) (cpu check : ℕ) (v : Known) (d : Demotion)
   pub view_is : w.view ≡ published (lifted (lifts_of v.view.number v.view.start check d.opening (cpu_count z.machine))
       (pairs_stored (cpu_count z.machine) d.gtod d.raw.ns (pair_stored cpu d.gtod d.raw.ns v.view)))
   pub good : IsGood w.view
+  -- what that comes to
+  pub pairs : (c : ℕ) → c < cpu_count z.machine → HasPair c d.gtod d.raw.ns w.view
+  pub words : (c : ℕ) → c < cpu_count z.machine → shown_on c w.view ≡ raise (opens_at v.view.start) d.opening
   pub offset_stands : w.view.modes.offset ≡ Some d.gtod_offset
   pub offset_now : w.gtod_offset ≡ v.gtod_offset
   pub last_now : w.last ≡ v.last

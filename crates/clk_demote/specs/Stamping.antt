@@ -1,8 +1,9 @@
 -- What a stamp reads, and what it stores at CPUs.
-use Rattle.std.specs.Prelude.{◌≡◌, ℕ, zero, suc, ℤ, false, List, [], slice_index_or, slice_set}
+use Rattle.std.specs.Prelude.{◌≡◌, ℕ, zero, suc, ℤ, false, List, [], slice_index_or, slice_set, Some}
 use Rattle.clk_words.specs.declared.view.View.{View}
 use Rattle.clk_words.specs.declared.view.ModeView.{ModeView}
-use Rattle.clk_words.specs.Parts.{gtod_of, raw_of}
+use Rattle.clk_words.specs.declared.view.Part.{Part}
+use Rattle.clk_words.specs.Parts.{gtod_of, raw_of, part_of}
 use Rattle.clk_words.specs.Told.{cloned_modes}
 use Rattle.clk_machine.specs.Plan.{Plan}
 use Rattle.clk_machine.specs.declared.reading.RawReading.{RawReading}
@@ -32,3 +33,11 @@ pair_stored cpu gtod raw v = record v { modes = with_pair cpu gtod raw v.modes }
 
 abbrev pub pairs_stored : ℕ → ℤ → ℤ → View → View
 pairs_stored n gtod raw v = record v { modes = with_pairs n gtod raw v.modes }
+
+-- the pair is the CPU's stamp 0, after which none is known
+abbrev pub stamp_zero : ℤ → Part
+stamp_zero x = record { zero = Some x; after = [] }
+
+pub record HasPair (cpu : ℕ) (gtod raw : ℤ) (v : View) : Type 0 where
+  pub gtod_is : part_of v.pairs.parts (gtod_of cpu) ≡ stamp_zero gtod
+  pub raw_is : part_of v.pairs.parts (raw_of cpu) ≡ stamp_zero raw

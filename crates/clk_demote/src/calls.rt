@@ -1,6 +1,6 @@
 //! The stable stamp and the demotion.
 ghost use Rattle.std.specs.Prelude.{◌≡◌, ◌+◌, ◌<◌, ◌≤◌, ◌++◌};
-ghost use Rattle.clk_words.specs.Bounds.{IsGtod, IsRaw, IsLiftValue};
+ghost use Rattle.clk_words.specs.Bounds.{IsGtod, IsRaw, IsOffset, IsLiftValue};
 ghost use Rattle.clk_words.specs.Held.{place_of};
 ghost use Rattle.clk_words.specs.Histories.{opens_at};
 ghost use Rattle.clk_words.specs.Told.{published};
@@ -109,6 +109,7 @@ fn store_stamp<E: Epochs>(ctx: &mut WatchCtx<'_, E>, cpu: u32) -> Stamp
     ensures may { MayDemote ctx.new.seat.view }
     ensures spends { Spends 2 ctx.old.time ctx.new.time }
     ensures offset { ctx.new.gtod_offset ≡ ctx.old.gtod_offset }
+    ensures range { IsOffset (opens_at ctx.new.words.now.start) ctx.new.gtod_offset }
     ensures last { ctx.new.last ≡ ctx.old.last }
     ensures shows { ShowsStamp (site_of ctx.old) cpu (known_of E.epoch ctx.old)
         result.gtod_ticket result.gtod result.raw (known_of E.epoch ctx.new) }
@@ -178,6 +179,7 @@ fn store_pairs(words: &Words, seat: &mut Seat, cpus: u32, gtod: i64, raw: i64)
     ensures own { place_of seat.new ≡ words.now }
     ensures view { seat.new.view ≡ pairs_stored cpus gtod raw seat.old.view }
     ensures cloned { HasCloned seat.new.view }
+    ensures unlifted { IsUnlifted seat.old.view → IsUnlifted seat.new.view }
     ensures may { MayDemote seat.new.view }
 {
     for cpu in 0..cpus {
@@ -204,6 +206,7 @@ fn lift_words(
     ensures own { place_of seat.new ≡ words.now }
     ensures view { seat.new.view ≡ lifted (lifts_of seat.old.view.number seat.old.view.start check opening cpus) seat.old.view }
     ensures good { IsGood seat.new.view }
+    ensures cloned { HasCloned seat.old.view → HasCloned seat.new.view }
     ensures all { HasLifted seat.new.view }
     ensures may { MayDemote seat.new.view }
     ensures items { lifts.new.items ≡ lifts.old.items ++ lifts_of seat.old.view.number seat.old.view.start check opening cpus }

@@ -24,6 +24,8 @@ mod events;
 mod latches;
 mod laws;
 mod opening;
+#[cfg(test)]
+mod tests;
 
 pub use calls::{demote, stable_stamp};
 pub use context::WatchCtx;

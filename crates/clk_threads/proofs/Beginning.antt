@@ -1,13 +1,12 @@
 -- Each thread of a run may begin with what was prepared for it.
-use Rattle.std.proofs.Common.{◌≡◌, ℕ, zero, suc, ◌+◌, ◌^◌, ◌<◌, ℤ, pos, Bool, true, false, cond, nat_eq, List, [], length, get_or, refl, sym, ap, ◌∙◌, subst, arith, eq-eqb}
+use Rattle.std.proofs.Common.{◌≡◌, ℕ, zero, suc, ◌+◌, ◌^◌, ◌<◌, ℤ, pos, Bool, true, false, cond, nat_eq, List, [], length, get_or, Option, Some, None, refl, sym, ap, ◌∙◌, subst, arith, eq-eqb}
 use Rattle.std.proofs.lemmas.Int.{ints}
 use Rattle.std.proofs.lemmas.List.{get_or-map}
 use Rattle.std.proofs.lemmas.List.Elements.{All-nil}
 use Rattle.clk_num.specs.Listed.{Listed}
-use Rattle.clk_num.specs.Range.{IsFrom0To}
+use Rattle.clk_num.specs.Range.{IsNear, IsFrom0To}
 use Rattle.clk_ticket.specs.Time.{Time, share_of}
 use Rattle.clk_words.specs.declared.kind.SeatKind.{SeatKind}
-use Rattle.clk_words.specs.declared.opening.Mode.TheVariants.{Stable, PerCpu}
 use Rattle.clk_words.specs.declared.opening.Opening.{Opening}
 use Rattle.clk_words.specs.declared.opening.Start.{Start}
 use Rattle.clk_words.specs.declared.view.Part.{Part}
@@ -15,7 +14,7 @@ use Rattle.clk_words.specs.declared.view.View.{View}
 use Rattle.clk_words.specs.Held.{Place, Held}
 use Rattle.clk_words.specs.Histories.{opens_at}
 use Rattle.clk_words.specs.Parts.{part_of, gtod_of, raw_of}
-use Rattle.clk_words.specs.Views.{pairs_known, first_view, given_view}
+use Rattle.clk_words.specs.Views.{is_percpu, pairs_known, first_view, given_view}
 use Rattle.clk_machine.specs.Plan.{Plan, cpu_count, thread_at, threads_of}
 use Rattle.clk_machine.specs.Records.{above_base, record_zero}
 use Rattle.clk_latch.specs.Epoch.{Epoch}
@@ -30,12 +29,14 @@ use Rattle.clk_worker.specs.Making.{Hand, FitTogether, SeatsServe, MayBegin}
 use Rattle.clk_worker.specs.Running.{IsSound, OwnsClock}
 use Rattle.clk_worker.specs.Calling.{site_at, has}
 use Rattle.clk_worker.proofs.RunFirst.{HasGiven, given_none, given_more}
-use Rattle.clk_threads.specs.Booting.{stable_offset_of}
-use Rattle.clk_threads.specs.Preparing.{kind_on, gave, thread_seat, thread_seats, epoch_on, IsOfLatch, IsLatchSeat, time_seat, no_events, IsPrepared}
+use Rattle.clk_demote.specs.declared.events.StableStamp.{StableStamp}
+use Rattle.clk_demote.specs.declared.events.Demotion.{Demotion}
+use Rattle.clk_threads.specs.Booting.{sched_offset_of, AreStamps, IsDemotedBy}
+use Rattle.clk_threads.specs.Preparing.{start_of, kind_on, gave, thread_seat, thread_seats, epoch_on, IsOfLatch, IsLatchSeat, time_seat, no_events, IsPrepared}
 use Rattle.clk_threads.specs.Workers.{post_of, fresh_hand, IsOfSeats}
 use Rattle.clk_threads.specs.Ending.{seats_of, shared_of}
 use Rattle.clk_threads.specs.declared.prepared.Prepared.{Prepared}
-use Rattle.clk_threads.proofs.Bringing.{adjust_near, adjust_at}
+use Rattle.clk_threads.proofs.Bringing.{adjust_after, adjust_at}
 use Rattle.clk_threads.proofs.Built.{built_at}
 use Rattle.clk_threads.proofs.Giving.{gave_start}
 use Rattle.clk_threads.proofs.LawfulLists.{thread_cpu}
@@ -62,7 +63,7 @@ post_at p thread = record {
   thread = thread;
   cpu = (thread_at p.machine thread).0;
   adjust = adjust_in (thread_at p.machine thread).0 p.up.cpus.items;
-  sched_offset = pos 0;
+  sched_offset = sched_offset_of p.machine p.stamps.items;
 }
 
 pub record IsFresh (p : Prepared) (booted : Time) (thread : ℕ) (h : Hand) : Type 0 where
@@ -70,12 +71,9 @@ pub record IsFresh (p : Prepared) (booted : Time) (thread : ℕ) (h : Hand) : Ty
   pub there : IsOfLatch p.machine p.latches thread latch
   pub hand : h ≡ fresh_hand (post_at p thread) (fresh_own p booted latch thread) (no_events (thread_at p.machine thread))
 
-pub no_offset : (p : Prepared) → IsPrepared p.machine p → p.machine.stable ≡ false → p.sched_offset ≡ pos 0
-no_offset p h percpu = h.sched_offset ∙ ap (λ (b : Bool). cond b (stable_offset_of p.stamps.items) (pos 0)) percpu
-
-post_is : (p : Prepared) → IsPrepared p.machine p → p.machine.stable ≡ false → (thread : ℕ) → thread < length (threads_of p.machine)
+post_is : (p : Prepared) → IsPrepared p.machine p → (thread : ℕ) → thread < length (threads_of p.machine)
     → post_of p.machine p.lists.adjusts.items p.sched_offset thread ≡ post_at p thread
-post_is p ip percpu thread low =
+post_is p ip thread low =
     let cpu : ℕ = (thread_at p.machine thread).0 in
     let ups : List CpuUp = p.up.cpus.items in
     let count = ip.up.count in
@@ -83,7 +81,7 @@ post_is p ip percpu thread low =
     let adjust : get_or p.lists.adjusts.items cpu (pos 0) ≡ adjust_in cpu ups =
     ap (λ (xs : List ℤ). get_or xs cpu (pos 0)) ip.lists.adjusts ∙ adjust_at cpu ups (pos 0) (omega (arith, there, count)) ip.up.numbers in
     ap (λ (x : ℤ). record { thread = thread; cpu = cpu; adjust = x; sched_offset = p.sched_offset }) adjust
-    ∙ ap (λ (x : ℤ). record { thread = thread; cpu = cpu; adjust = adjust_in cpu ups; sched_offset = x }) (no_offset p ip percpu)
+    ∙ ap (λ (x : ℤ). record { thread = thread; cpu = cpu; adjust = adjust_in cpu ups; sched_offset = x }) ip.sched_offset
 
 own_is : (o : Own) (seat : Held) (latch : LatchPlace) (time : Time) → o.seat ≡ seat → o.latch_seat ≡ latch → o.time ≡ time
     → o ≡ record { seat = seat; latch_seat = latch; time = time }
@@ -92,9 +90,9 @@ own_is o seat latch time a b c =
     ∙ ap (λ (x : LatchPlace). record { seat = seat; latch_seat = x; time = o.time }) b
     ∙ ap (λ (x : Time). record { seat = seat; latch_seat = latch; time = x }) c
 
-pub fresh_worker : (p : Prepared) (ip : IsPrepared p.machine p) → p.machine.stable ≡ false → (thread : ℕ) (h : Hand) → thread < length (threads_of p.machine)
+pub fresh_worker : (p : Prepared) (ip : IsPrepared p.machine p) (thread : ℕ) (h : Hand) → thread < length (threads_of p.machine)
     → IsOfSeats p.machine p.lists.adjusts.items p.sched_offset (seats_of p) thread h → IsFresh p ip.booted thread h
-fresh_worker p ip percpu thread h low w =
+fresh_worker p ip thread h low w =
     let m : Plan = p.machine in
     let booted : Time = ip.booted in
     let o : Own = w.own in
@@ -117,55 +115,66 @@ fresh_worker p ip percpu thread h low w =
       latch = o.latch_seat;
       there = latch.0;
       hand =
-          w.hand ∙ ap (λ (x : Post). fresh_hand x o w.list) (post_is p ip percpu thread low)
+          w.hand ∙ ap (λ (x : Post). fresh_hand x o w.list) (post_is p ip thread low)
           ∙ ap (λ (x : Own). fresh_hand (post_at p thread) x w.list) own
           ∙ ap (λ (l : Listed Event). fresh_hand (post_at p thread) (fresh_own p booted o.latch_seat thread) l) list;
     }
 
 -- ---- it may begin
 
-pub fit : (p : Prepared) → IsPrepared p.machine p → p.machine.stable ≡ false → FitTogether (shared_of p)
-fit p ip percpu =
+-- the words open near the machine's base
+pub opens_near : (m : Plan) (stamps : List StableStamp) (demotion : Option Demotion) → AreStamps m stamps → IsDemotedBy m stamps demotion
+    → IsFrom0To (2 ^ 57) (above_base m (opens_at (start_of m stamps demotion)))
+opens_near m stamps None are by = are.near
+opens_near m stamps (Some d) are by = (by d refl).near
+
+pub fit : (p : Prepared) → IsPrepared p.machine p → FitTogether (shared_of p)
+fit p ip =
     let start = ip.opened.start in
     record {
       limits = ip.limits;
       cpus = ap (λ (s : Start). s.cpus) start;
       latches = ip.latches.latches;
       tick = ap (λ (s : Start). s.tick) start;
-      opening = subst (λ (s : Start). IsFrom0To (2 ^ 57) (above_base p.machine (opens_at s))) (sym start) ip.stamps.near;
-      percpu = ap (λ (s : Start). s.opening.mode) start ∙ ap (λ (b : Bool). cond b Stable PerCpu) percpu;
+      opening =
+          subst (λ (s : Start). IsFrom0To (2 ^ 57) (above_base p.machine (opens_at s))) (sym start)
+          (opens_near p.machine p.stamps.items p.boot_demotion ip.stamps ip.demotion.is);
     }
 
-pub given_all : (m : Plan) (start : Start) → start.opening.mode ≡ PerCpu → (n : ℕ) → HasGiven start n (gave m n (first_view start))
-given_all m start percpu zero = given_none start percpu
-given_all m start percpu (suc n) =
+pub given_all : (m : Plan) (start : Start) (n : ℕ) → HasGiven start n (gave m n (first_view start))
+given_all m start zero = given_none start
+given_all m start (suc n) =
     let on : n + 1 ≡ suc n = omega arith in
     subst (λ (k : ℕ). HasGiven start k (gave m (suc n) (first_view start))) on
-    (given_more start n (gave m n (first_view start)) (kind_on m n) (given_all m start percpu n))
+    (given_more start n (gave m n (first_view start)) (kind_on m n) (given_all m start n))
 
-none_after : (n r : ℕ) (o : Opening) → (part_of (pairs_known n o) r).after ≡ []
-none_after zero r o = refl
-none_after (suc n) zero o = refl
-none_after (suc n) (suc zero) o = refl
-none_after (suc n) (suc (suc r)) o = none_after n r o
+none_known : (n r : ℕ) (o : Opening) → (part_of (pairs_known n o) r).after ≡ []
+none_known zero r o = refl
+none_known (suc n) zero o = refl
+none_known (suc n) (suc zero) o = refl
+none_known (suc n) (suc (suc r)) o = none_known n r o
 
-may_stamp : (p : Prepared) (thread : ℕ) → thread < cpu_count p.machine → p.opened.words.start.opening.mode ≡ PerCpu
-    → MayStamp (thread_seat p.machine p.opened.words thread).view
-may_stamp p thread low percpu =
+-- after stamp 0 nothing is known
+none_after : (b : Bool) (n r : ℕ) (o : Opening) → (part_of (cond b (pairs_known n o) []) r).after ≡ []
+none_after true n r o = none_known n r o
+none_after false n r o = refl
+
+may_stamp : (p : Prepared) (thread : ℕ) → thread < cpu_count p.machine → MayStamp (thread_seat p.machine p.opened.words thread).view
+may_stamp p thread low =
     let start = p.opened.words.start in
     let before : View = gave p.machine thread (first_view start) in
-    let parts = (given_all p.machine start percpu thread).parts in
+    let parts = (given_all p.machine start thread).parts in
     let none : (r : ℕ) → length (part_of before.pairs.parts r).after ≡ 0 = λ r.
-    ap (λ (ps : List Part). length (part_of ps r).after) parts ∙ ap length (none_after start.cpus r start.opening) in
+    ap (λ (ps : List Part). length (part_of ps r).after) parts ∙ ap length (none_after (is_percpu start.opening.mode) start.cpus r start.opening) in
     let same : nat_eq thread thread ≡ true = eq-eqb thread thread refl in
     subst (λ (k : SeatKind). MayStamp (given_view k before)) (sym (kind_owner p.machine thread low))
     (record { owner = rw same refl; whole = none (gtod_of thread) ∙ sym (none (raw_of thread)) })
 
-owns_clock : (p : Prepared) (booted : Time) (latch : LatchPlace) (thread : ℕ) → thread < cpu_count p.machine → p.opened.words.start.opening.mode ≡ PerCpu
+owns_clock : (p : Prepared) (booted : Time) (latch : LatchPlace) (thread : ℕ) → thread < cpu_count p.machine
     → OwnsClock (site_at (shared_of p) (post_at p thread) 0) (has (fresh_own p booted latch thread))
-owns_clock p booted latch thread low percpu =
+owns_clock p booted latch thread low =
     record {
-      may_stamp = may_stamp p thread low percpu;
+      may_stamp = may_stamp p thread low;
       owner = own_thread p.machine thread low;
       records = record { updates = []; all = refl; next = tt };
       drawn = All-nil _;
@@ -175,33 +184,35 @@ sound : (p : Prepared) (booted : Time) (latch : LatchPlace) (thread : ℕ)
     → IsSound (site_at (shared_of p) (post_at p thread) 0) (share_of (fresh_own p booted latch thread).time) (has (fresh_own p booted latch thread))
 sound p booted latch thread = record { base = record { zero = λ d. refl }; share_is = refl; rises = tt }
 
-serve : (p : Prepared) (ip : IsPrepared p.machine p) → p.machine.stable ≡ false → (latch : LatchPlace) (thread : ℕ) → thread < length (threads_of p.machine)
+wider : (x : ℤ) → IsNear 57 x → IsNear 59 x
+wider x near = let low = near.0 in let high = near.1 in (omega (arith, ints, low), omega (arith, ints, high))
+
+serve : (p : Prepared) (ip : IsPrepared p.machine p) (latch : LatchPlace) (thread : ℕ) → thread < length (threads_of p.machine)
     → IsOfLatch p.machine p.latches thread latch
     → SeatsServe (shared_of p) (post_at p thread) (share_of (fresh_own p ip.booted latch thread).time) (fresh_own p ip.booted latch thread)
-serve p ip percpu latch thread low there =
-    let together = fit p ip percpu in
+serve p ip latch thread low there =
     record {
-      shared = together;
+      shared = fit p ip;
       thread = low;
       stands = refl;
       cpu = thread_cpu p.machine thread ip.limits low;
-      near = adjust_near p.machine p.up p.tickets p.stamps.items ip.booted (thread_at p.machine thread).0 ip.limits ip.up ip.drawn;
-      offset = (omega (arith, ints), omega (arith, ints));
+      near = adjust_after p.machine p.up p.tickets p.stamps.items p.boot_demotion ip.booted (thread_at p.machine thread).0 ip.limits ip.up ip.drawn;
+      offset = wider (sched_offset_of p.machine p.stamps.items) ip.stamps.sched_near;
       of_words = ap (λ (s : Start). record { table = p.opened.words.table; start = s }) (gave_start p.machine thread (first_view p.opened.words.start));
       of_latch = there;
       of_tickets = ip.drawn.table;
       reading = kind_reads p.machine thread;
       cpu_is = sym (kind_cpu p.machine thread);
       sound = sound p ip.booted latch thread;
-      owner = λ own. owns_clock p ip.booted latch thread own together.percpu;
+      owner = λ own. owns_clock p ip.booted latch thread own;
     }
 
-pub may_begin : (p : Prepared) (ip : IsPrepared p.machine p) → p.machine.stable ≡ false → (latch : LatchPlace) (thread : ℕ) → thread < length (threads_of p.machine)
+pub may_begin : (p : Prepared) (ip : IsPrepared p.machine p) (latch : LatchPlace) (thread : ℕ) → thread < length (threads_of p.machine)
     → IsOfLatch p.machine p.latches thread latch
     → MayBegin (shared_of p) (post_at p thread) (fresh_own p ip.booted latch thread) (no_events (thread_at p.machine thread))
-may_begin p ip percpu latch thread low there =
+may_begin p ip latch thread low there =
     record {
-      serves = serve p ip percpu latch thread low there;
+      serves = serve p ip latch thread low there;
       enough = record { tickets = omega arith; updates = updates_left p.machine thread ip.limits low; room = omega arith };
       empty = refl;
     }

@@ -1,12 +1,12 @@
 -- A bring-up after the boot: its tickets follow the boot's, and leave those of the scripts; and no counter is adjusted by more
 -- than it may be read by.
-use Rattle.std.proofs.Common.{◌≡◌, ℕ, zero, suc, ◌+◌, ◌-◌, ◌*◌, ◌^◌, ◌<◌, ◌≤◌, Bool, true, false, cond, nat_eq, ℤ, pos, ◌+ℤ◌, neg_ℤ, List, [], ◌∷◌, ◌++◌, map, length, get_or, Option, Some, None, refl, sym, ap, ◌∙◌, subst, inl, inr, arith, eq-eqb, append_assoc, append-nil}
-use Rattle.std.specs.List.{All}
+use Rattle.std.proofs.Common.{◌≡◌, ℕ, zero, suc, ◌+◌, ◌-◌, ◌*◌, ◌^◌, ◌<◌, ◌≤◌, Bool, true, false, cond, ◌&&◌, nat_eq, ℤ, pos, ◌+ℤ◌, neg_ℤ, List, [], ◌∷◌, ◌++◌, map, flat_map, length, get_or, Option, Some, None, refl, sym, ap, ◌∙◌, subst, inl, inr, arith, eq-eqb, append_assoc, append-nil}
+use Rattle.std.specs.List.{All, list_any}
 use Rattle.std.proofs.lemmas.Bool.{cases_lt}
 use Rattle.std.proofs.lemmas.Bool.Decides.{nat_tests}
 use Rattle.std.proofs.lemmas.Int.{ints}
 use Rattle.std.proofs.lemmas.List.Concat.{flat_map-append}
-use Rattle.std.proofs.lemmas.List.Elements.{All-nil, All-cons, All-head, All-tail, All-append}
+use Rattle.std.proofs.lemmas.List.Elements.{All-nil, All-cons, All-head, All-tail, All-append, All-map}
 use Rattle.clk_base.specs.declared.block.Block.{Block}
 use Rattle.clk_base.specs.Blocks.{end_of, AllEndBy, Rises}
 use Rattle.clk_base.specs.Walk.{Along, EachFrom}
@@ -26,15 +26,17 @@ use Rattle.clk_warp.specs.Verdicts.{adjustment, verdict_of}
 use Rattle.clk_warp.specs.declared.outcome.Verdict.TheVariants as verdict
 use Rattle.clk_adjust.specs.declared.up.CpuUp.{CpuUp}
 use Rattle.clk_adjust.specs.declared.up.BroughtUp.{BroughtUp}
-use Rattle.clk_adjust.specs.BroughtUp.{IsRunOf, adjusted, adjusted_by, AreRunsOf, most_runs, AreMadeAgain, IsTested, test_of, IsUp, failed_after, IsBroughtUp}
+use Rattle.clk_adjust.specs.BroughtUp.{IsRunOf, adjusted, adjusted_by, AreRunsOf, most_runs, AreMadeAgain, IsTested, test_of, IsUp, is_failure, failed_after, IsBroughtUp}
 use Rattle.clk_adjust.specs.Tickets.{readings_in, all_readings, cpu_tickets, up_tickets}
 use Rattle.clk_adjust.proofs.Counters.{readings_by}
 use Rattle.clk_adjust.proofs.Sizes.{IsSmall, run_small}
 use Rattle.clk_adjust.proofs.Going.{IsFar, calls_again}
 use Rattle.clk_trace.specs.RightReadings.{adjust_in}
+use Rattle.clk_trace.specs.Checks.{listed, demotion_blocks}
 use Rattle.clk_trace.specs.TicketOrder.{boot_blocks}
 use Rattle.clk_demote.specs.declared.events.StableStamp.{StableStamp}
-use Rattle.clk_threads.specs.Booting.{HasDrawnFirst, IsBooted, IsBootedFor}
+use Rattle.clk_demote.specs.declared.events.Demotion.{Demotion}
+use Rattle.clk_threads.specs.Booting.{demotion_tickets, HasDrawnFirst, HasDrawnBefore, IsBooted, IsBootedFor}
 use Rattle.clk_threads.specs.Preparing.{adjusts_of}
 use Rattle.clk_threads.specs.declared.booted.Booted.{Booted}
 use Rattle.clk_threads.proofs.LawfulLists.{each_at}
@@ -53,6 +55,33 @@ few_by m (Some part) e =
     let turns : turns_in m.bringup ≡ count_of part.turns = ap turns_in e in
     let same = ap (λ (n : ℕ). (cpu_count m - 1) * (most_runs part * (2 * (n + 10)))) turns in
     omega (arith, same)
+
+-- without a bring-up no CPU failed
+none_failed : (m : Plan) (failed : Bool) (ups : List CpuUp) → m.bringup ≡ None → Along (λ failed up. IsUp m (test_of m None up.cpu) failed up) failed_after failed ups
+    → list_any (λ (up : CpuUp). is_failure up.outcome) ups ≡ false
+none_failed m failed [] e along = refl
+none_failed m failed (up ∷ ups) e along =
+    let left : IsUp m None failed up = subst (λ (o : Option BringUpPart). IsUp m o failed up) e along.0 in
+    rw left.outcome_is (none_failed m (failed_after failed up) ups e along.1)
+
+two_at_most : (stable failed : Bool) → cond (stable && failed) 2 0 ≤ cond stable 2 0
+two_at_most true true = omega arith
+two_at_most true false = omega arith
+two_at_most false failed = omega arith
+
+not_two : (stable failed : Bool) → failed ≡ false → ◌≡◌ {A = ℕ} (cond (stable && failed) 2 0) 0
+not_two true failed e = rw e refl
+not_two false failed e = refl
+
+-- they count what a demotion at boot may draw too
+few_demoted : (m : Plan) (o : Option BringUpPart) (failed : Bool) → m.bringup ≡ o → (o ≡ None → failed ≡ false)
+    → (cpu_count m - 1) * cpu_tickets m o + demotion_tickets m failed ≤ bring_up_tickets m o
+few_demoted m None failed e untested = let zero_left = not_two m.stable failed (untested refl) in omega (arith, zero_left)
+few_demoted m (Some part) failed e untested =
+    let turns : turns_in m.bringup ≡ count_of part.turns = ap turns_in e in
+    let same = ap (λ (n : ℕ). (cpu_count m - 1) * (most_runs part * (2 * (n + 10)))) turns in
+    let two = two_at_most m.stable failed in
+    omega (arith, same, two)
 
 pub may_bring_up : (m : Plan) (b : Booted) → IsBooted m b → up_tickets m ≤ b.time.left
 may_bring_up m b h =
@@ -102,13 +131,13 @@ drawn_after tickets stamps ups before now h d =
     }
 
 -- a boot, and a bring-up by its seat
-pub booted_for : (m : Plan) (b : Booted) (up : BroughtUp) (now : Time) → IsBooted m b → DrawsFor b.time (all_readings up.cpus.items) now
+pub booted_for : (m : Plan) (b : Booted) (up : BroughtUp) (now : Time) → IsBooted m b → IsBroughtUp m None up → DrawsFor b.time (all_readings up.cpus.items) now
     → b.time.left ≤ now.left + up_tickets m → IsBootedFor m up (record b { time = now })
-booted_for m b up now h d spent =
+booted_for m b up now h is d spent =
     let boot = h.boot in
     let needed = boot.limits.tickets in
     let limit = limit_few (is_second m.version) in
-    let few = few_by m m.bringup refl in
+    let few = few_demoted m m.bringup up.failed refl (λ untested. is.failed ∙ none_failed m false up.cpus.items untested is.cpus) in
     let left = h.left in
     record {
       boot = record {
@@ -244,14 +273,29 @@ in_near cpu (up ∷ ups) all = at (nat_eq up.cpu cpu) (in_near cpu ups (All-tail
     at false rest = rest
 
 -- by what a bring-up found with the tickets after the boot's
-pub adjust_near : (m : Plan) (up : BroughtUp) (tickets : Tickets) (stamps : List StableStamp) (time : Time) (cpu : ℕ) → IsWithinLimits m → IsBroughtUp m None up
-    → HasDrawnFirst tickets stamps up.cpus.items time → IsNear 47 (adjust_in cpu up.cpus.items)
-adjust_near m up tickets stamps time cpu limits is drawn =
+pub adjusts_near : (m : Plan) (up : BroughtUp) (tickets : Tickets) (stamps : List StableStamp) (demotion : Option Demotion) (time : Time) → IsWithinLimits m
+    → IsBroughtUp m None up → HasDrawnBefore tickets stamps up.cpus.items demotion time → All (λ up. IsNear 47 up.adjust) up.cpus.items
+adjusts_near m up tickets stamps demotion time limits is drawn =
     let ups : List CpuUp = up.cpus.items in
+    let Ends : Block → Type 0 = λ b. end_of b ≤ time.seen in
+    let first : List Block = boot_blocks 0 stamps ++ map block_of (all_readings ups) in
     let count = is.count in
-    let ends = all_both (λ (b : Block). end_of b ≤ time.seen) (boot_blocks 0 stamps) (map block_of (all_readings ups)) (subst (AllEndBy time.seen) drawn.blocks drawn.ends) in
-    let within = within_blocks time.seen (all_readings ups) drawn.within ends.1 in
-    in_near cpu ups (ups_near m 1 false ups limits (omega (arith, count)) within is.numbers is.cpus)
+    let ends = all_both Ends first (flat_map demotion_blocks (listed demotion)) (subst (AllEndBy time.seen) drawn.blocks drawn.ends) in
+    let read = all_both Ends (boot_blocks 0 stamps) (map block_of (all_readings ups)) ends.0 in
+    let within = within_blocks time.seen (all_readings ups) drawn.within read.1 in
+    ups_near m 1 false ups limits (omega (arith, count)) within is.numbers is.cpus
+
+pub adjust_after : (m : Plan) (up : BroughtUp) (tickets : Tickets) (stamps : List StableStamp) (demotion : Option Demotion) (time : Time) (cpu : ℕ) → IsWithinLimits m
+    → IsBroughtUp m None up → HasDrawnBefore tickets stamps up.cpus.items demotion time → IsNear 47 (adjust_in cpu up.cpus.items)
+adjust_after m up tickets stamps demotion time cpu limits is drawn = in_near cpu up.cpus.items (adjusts_near m up tickets stamps demotion time limits is drawn)
+
+-- and so of each CPU in order
+pub list_near : (m : Plan) (up : BroughtUp) (tickets : Tickets) (stamps : List StableStamp) (demotion : Option Demotion) (time : Time) → IsWithinLimits m
+    → IsBroughtUp m None up → HasDrawnBefore tickets stamps up.cpus.items demotion time → All (IsNear 47) (adjusts_of up.cpus.items)
+list_near m up tickets stamps demotion time limits is drawn =
+    let ups : List CpuUp = up.cpus.items in
+    All-cons (IsNear 47) (pos 0) (map (λ (x : CpuUp). x.adjust) ups) (zero_near (pos 0) refl)
+    (All-map (IsNear 47) (λ (x : CpuUp). x.adjust) ups (adjusts_near m up tickets stamps demotion time limits is drawn))
 
 -- ---- the adjustment of each CPU, by number
 

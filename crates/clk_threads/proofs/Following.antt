@@ -1,6 +1,6 @@
--- What a thread knew of its CPU's stamps and records begins what the CPU's own thread knew: that one owns them, so once all
+-- What a thread knew of its CPU's stamps after stamp 0 and of its records begins what the CPU's own thread knew: that one owns them, so once all
 -- seats are joined there is no more of them than it knew.
-use Rattle.std.proofs.Common.{◌≡◌, ℕ, ◌+◌, ◌/◌, ◌<◌, ◌≤◌, ℤ, nat_eq, Bool, true, false, ◌||◌, List, [], ◌∷◌, map, length, get_or, Some, None, ⊎_elim, inl, inr, refl, sym, ap, ◌∙◌, subst, arith, eq-eqb}
+use Rattle.std.proofs.Common.{◌≡◌, ℕ, ◌+◌, ◌/◌, ◌<◌, ◌≤◌, nat_eq, Bool, true, false, ◌||◌, List, [], ◌∷◌, map, length, get_or, refl, sym, ap, ◌∙◌, subst, arith, eq-eqb}
 use Rattle.std.specs.List.{All}
 use Rattle.std.proofs.lemmas.Bool.Decides.{nat_tests}
 use Rattle.std.proofs.lemmas.List.{length-map, get_or-map}
@@ -8,11 +8,9 @@ use Rattle.std.proofs.lemmas.List.Elements.{All-get_or}
 use mathlib.Core.List.{IsPrefix}
 use Rattle.clk_base.specs.Walk.{EachFrom}
 use Rattle.clk_words.specs.declared.kind.SeatKind.{SeatKind}
-use Rattle.clk_words.specs.declared.opening.Start.{Start}
-use Rattle.clk_words.specs.declared.view.Part.{Part}
 use Rattle.clk_words.specs.declared.view.View.{View}
 use Rattle.clk_words.specs.Fronts.{Begins}
-use Rattle.clk_words.specs.Parts.{gtod_of, raw_of, part_of, PartBegins}
+use Rattle.clk_words.specs.Parts.{gtod_of, raw_of, part_of}
 use Rattle.clk_words.specs.Rights.{has_number, owned_by}
 use Rattle.clk_words.proofs.Registers.{cpu_of_gtod, cpu_of_raw}
 use Rattle.clk_machine.specs.Plan.{Plan, cpu_count, thread_at, threads_of}
@@ -21,33 +19,17 @@ use Rattle.clk_latch.specs.Epoch.{Epoch}
 use Rattle.clk_latch.specs.Epoch.{Place as LatchPlace}
 use Rattle.clk_trace.proofs.Gaining.{each_from}
 use Rattle.clk_threads.specs.Preparing.{kind_on}
-use Rattle.clk_threads.specs.Finishing.{Ran, FollowsOwner}
-use Rattle.clk_threads.specs.Ending.{all_together, StampsBegin, RecordsBegin}
+use Rattle.clk_threads.specs.Finishing.{Ran, KnowsNoMore, FollowsOwner}
+use Rattle.clk_threads.specs.Ending.{all_together, RecordsBegin}
 use Rattle.clk_threads.proofs.Gathering.{after_taken}
 use Rattle.clk_threads.proofs.LawfulLists.{owner_cpu, thread_cpu}
 use Rattle.clk_threads.proofs.Numbering.{each_of, cpu_low, kind_owner}
 
--- what a thread has at its end: it owns what its seat was given, and knows stamp 0 of its CPU
-pub record EndsOn (m : Plan) (start : Start) (thread : ℕ) (r : Ran) : Type 0 where
+-- what a thread has at its end: it owns what its seat was given
+pub record EndsOn (m : Plan) (thread : ℕ) (r : Ran) : Type 0 where
   pub owns : r.ended.view.pairs.owns ≡ owned_by (kind_on m thread)
-  pub raw_zero : (part_of r.ended.view.pairs.parts (raw_of (thread_at m thread).0)).zero ≡ Some start.opening.tick_raw
-  pub gtod_zero : (part_of r.ended.view.pairs.parts (gtod_of (thread_at m thread).0)).zero ≡ Some start.opening.tick_gtod
 
 -- ---- the stamps
-
--- of two parts of one: the second knows stamp 0 and all after it
-part_owner : (p q w : Part) (x : ℤ) → PartBegins p w → PartBegins q w → q.zero ≡ Some x → w.after ≡ q.after → PartBegins p q
-part_owner p q w x a b knows same = record {
-  zero_is = ⊎_elim
-      (λ (none : p.zero ≡ None). inl none)
-      (λ (e : p.zero ≡ w.zero).
-      ⊎_elim (λ (none : q.zero ≡ None). absurd (some_none (sym knows ∙ none))) (λ (f : q.zero ≡ w.zero). inr (e ∙ sym f)) b.zero_is)
-      a.zero_is;
-  after = subst (Begins p.after) same a.after;
-}
-  where
-    some_none : Some x ≡ None → ⊥
-    some_none e = absurd (cc)
 
 owns_own : (m : Plan) (cpu : ℕ) → cpu < cpu_count m → has_number (owned_by (kind_on m cpu)) cpu ≡ true
 owns_own m cpu low =
@@ -60,17 +42,17 @@ owns_other m thread cpu lower low =
     ap (λ (k : SeatKind). has_number (owned_by k) cpu) (kind_owner m thread (omega (arith, lower, low))) ∙ ap (λ (t : Bool). t || false) apart
 
 -- a register of a CPU is known as far as its own thread knew it
-own_kept : (m : Plan) (start : Start) (v : View) (rans : List Ran) (cpu r : ℕ) (d : Ran) → cpu < cpu_count m → cpu < length rans → r / 2 ≡ cpu
-    → EachFrom (EndsOn m start) 0 rans → has_number v.pairs.owns cpu ≡ false
+own_kept : (m : Plan) (v : View) (rans : List Ran) (cpu r : ℕ) (d : Ran) → cpu < cpu_count m → cpu < length rans → r / 2 ≡ cpu
+    → EachFrom (EndsOn m) 0 rans → has_number v.pairs.owns cpu ≡ false
     → (part_of (all_together v (map (λ (x : Ran). x.ended.view) rans)).pairs.parts r).after ≡ (part_of (get_or rans cpu d).ended.view.pairs.parts r).after
-own_kept m start v rans cpu r d own low half each none =
+own_kept m v rans cpu r d own low half each none =
     let Ended : Ran → View = λ x. x.ended.view in
     let views : List View = map Ended rans in
     let at : (k : ℕ) → k < length rans → get_or views k d.ended.view ≡ (get_or rans k d).ended.view = λ k there. get_or-map Ended rans k d d.ended.view there in
     let owns : (k : ℕ) → k < length rans → has_number (get_or views k d.ended.view).pairs.owns (r / 2) ≡ has_number (owned_by (kind_on m k)) cpu = λ k there.
     ap (λ (i : ℕ). has_number (get_or views k d.ended.view).pairs.owns i) half
     ∙ ap (λ (x : View). has_number x.pairs.owns cpu) (at k there)
-    ∙ ap (λ (ns : List ℕ). has_number ns cpu) (each_of (EndsOn m start) rans k d there each).owns in
+    ∙ ap (λ (ns : List ℕ). has_number ns cpu) (each_of (EndsOn m) rans k d there each).owns in
     let count = length-map rans Ended in
     after_taken v views r cpu d.ended.view (omega (arith, low, count)) (ap (has_number v.pairs.owns) half ∙ none)
     (λ j lower. owns j (omega (arith, lower, low)) ∙ owns_other m j cpu lower own)
@@ -107,28 +89,27 @@ records_each m all rans limits count many same n (s ∷ seats) (r ∷ some) few 
 -- ---- both
 
 -- the seats of all threads were joined with one that owns no CPU of an own thread
-pub record AreTogether (m : Plan) (start : Start) (v whole : View) (seats : List LatchPlace) (rans : List Ran) : Type 0 where
+pub record AreTogether (m : Plan) (v whole : View) (seats : List LatchPlace) (rans : List Ran) : Type 0 where
   pub limits : IsWithinLimits m
   pub count : length rans ≡ length (threads_of m)
-  pub ends : EachFrom (EndsOn m start) 0 rans
+  pub ends : EachFrom (EndsOn m) 0 rans
   pub free : (cpu : ℕ) → cpu < cpu_count m → has_number v.pairs.owns cpu ≡ false
   pub is : whole ≡ all_together v (map (λ (r : Ran). r.ended.view) rans)
-  pub stamps : All (λ (r : Ran). StampsBegin r.ended.view whole) rans
+  pub known : All (λ (r : Ran). KnowsNoMore r.ended.view whole) rans
   pub many : length seats ≡ length rans
   pub epochs : map (λ (s : LatchPlace). s.epoch) seats ≡ map (λ (r : Ran). r.ended.epoch) rans
   pub records : EachFrom (RecordsBegin m seats) 0 seats
 
-pub follow : (m : Plan) (start : Start) (v whole : View) (seats : List LatchPlace) (rans : List Ran) → AreTogether m start v whole seats rans
+pub follow : (m : Plan) (v whole : View) (seats : List LatchPlace) (rans : List Ran) → AreTogether m v whole seats rans
     → EachFrom (λ thread r. FollowsOwner (thread_at m thread).0 rans r) 0 rans
-follow m start v whole seats rans t =
+follow m v whole seats rans t =
     each_from (λ thread r. FollowsOwner (thread_at m thread).0 rans r) 0 rans (λ k d low.
     let e : k ≡ 0 + k = omega arith in
     let count = t.count in
-    let few : k < length (threads_of m) = omega (arith, low, count) in
     subst (λ (i : ℕ). FollowsOwner (thread_at m i).0 rans (get_or rans k d)) e
     (record {
-      raws = λ x. registers k d low (raw_of (thread_at m k).0) (cpu_of_raw (thread_at m k).0) x start.opening.tick_raw (knows_raw (thread_at m k).0 x (own k few));
-      gtods = λ x. registers k d low (gtod_of (thread_at m k).0) (cpu_of_gtod (thread_at m k).0) x start.opening.tick_gtod (knows_gtod (thread_at m k).0 x (own k few));
+      raws = λ x. registers k d low (raw_of (thread_at m k).0) (cpu_of_raw (thread_at m k).0) x;
+      gtods = λ x. registers k d low (gtod_of (thread_at m k).0) (cpu_of_gtod (thread_at m k).0) x;
       records = each_of (λ i (r : Ran). (x : Ran) → IsPrefix r.ended.epoch.records (get_or rans (thread_at m i).0 x).ended.epoch.records) rans k d low
           (records_each m seats rans t.limits t.count t.many t.epochs 0 seats rans (let many = t.many in omega (arith, many, count)) t.epochs t.records);
     }))
@@ -139,27 +120,13 @@ follow m start v whole seats rans t =
     there : (cpu : ℕ) → cpu < cpu_count m → cpu < length rans
     there cpu low = let within = cpu_low m cpu low in let count = t.count in omega (arith, within, count)
 
-    knows_raw : (cpu : ℕ) (x : Ran) → cpu < cpu_count m → (part_of (get_or rans cpu x).ended.view.pairs.parts (raw_of cpu)).zero ≡ Some start.opening.tick_raw
-    knows_raw cpu x low =
-        subst (λ (c : ℕ). (part_of (get_or rans cpu x).ended.view.pairs.parts (raw_of c)).zero ≡ Some start.opening.tick_raw) (owner_cpu m cpu low)
-        (each_of (EndsOn m start) rans cpu x (there cpu low) t.ends).raw_zero
-
-    knows_gtod : (cpu : ℕ) (x : Ran) → cpu < cpu_count m → (part_of (get_or rans cpu x).ended.view.pairs.parts (gtod_of cpu)).zero ≡ Some start.opening.tick_gtod
-    knows_gtod cpu x low =
-        subst (λ (c : ℕ). (part_of (get_or rans cpu x).ended.view.pairs.parts (gtod_of c)).zero ≡ Some start.opening.tick_gtod) (owner_cpu m cpu low)
-        (each_of (EndsOn m start) rans cpu x (there cpu low) t.ends).gtod_zero
-
-    begins : (k : ℕ) (d : Ran) → k < length rans → StampsBegin (get_or rans k d).ended.view whole
-    begins k d low = All-get_or (λ (r : Ran). StampsBegin r.ended.view whole) rans k d low t.stamps
-
-    registers : (k : ℕ) (d : Ran) → k < length rans → (r : ℕ) → r / 2 ≡ (thread_at m k).0 → (x : Ran) (value : ℤ)
-        → (part_of (get_or rans (thread_at m k).0 x).ended.view.pairs.parts r).zero ≡ Some value
-        → PartBegins (part_of (get_or rans k d).ended.view.pairs.parts r) (part_of (get_or rans (thread_at m k).0 x).ended.view.pairs.parts r)
-    registers k d low r half x value knows =
+    registers : (k : ℕ) (d : Ran) → k < length rans → (r : ℕ) → r / 2 ≡ (thread_at m k).0 → (x : Ran)
+        → Begins (part_of (get_or rans k d).ended.view.pairs.parts r).after (part_of (get_or rans (thread_at m k).0 x).ended.view.pairs.parts r).after
+    registers k d low r half x =
         let cpu : ℕ = (thread_at m k).0 in
         let count = t.count in
         let below : cpu < cpu_count m = own k (omega (arith, low, count)) in
         let within = there cpu below in
-        let kept = ap (λ (w : View). (part_of w.pairs.parts r).after) t.is ∙ own_kept m start v rans cpu r x below within half t.ends (t.free cpu below) in
-        part_owner (part_of (get_or rans k d).ended.view.pairs.parts r) (part_of (get_or rans cpu x).ended.view.pairs.parts r) (part_of whole.pairs.parts r) value
-        (begins k d low r) (begins cpu x within r) knows kept
+        let kept = ap (λ (w : View). (part_of w.pairs.parts r).after) t.is ∙ own_kept m v rans cpu r x below within half t.ends (t.free cpu below) in
+        let known : KnowsNoMore (get_or rans k d).ended.view whole = All-get_or (λ (y : Ran). KnowsNoMore y.ended.view whole) rans k d low t.known in
+        subst (Begins (part_of (get_or rans k d).ended.view.pairs.parts r).after) kept (known.parts r).after

@@ -1,29 +1,35 @@
 -- The seats of workers are joined with two, one after another.
-use Rattle.std.proofs.Common.{◌≡◌, ℕ, zero, suc, ◌+◌, ◌/◌, nat_eq, Bool, true, false, ◌||◌, ◌<◌, List, [], ◌∷◌, ◌++◌, map, length, get_or, Option, Some, append_assoc, append-nil, sym, ap, ◌∙◌, subst, refl, arith}
+use Rattle.std.proofs.Common.{◌≡◌, ℕ, zero, suc, ◌+◌, ◌/◌, nat_eq, Bool, true, false, ◌||◌, ◌<◌, List, [], ◌∷◌, ◌++◌, map, length, get_or, Option, Some, append_assoc, append-nil, sym, ap, ◌∙◌, subst, refl, arith, ⊎_elim, inl, inr, None}
 use Rattle.std.specs.List.{All, flat_map, sum_by}
 use Rattle.std.proofs.lemmas.Bool.Decides.{nat_tests}
 use Rattle.std.proofs.lemmas.Grind.{flat_map-append}
 use Rattle.std.proofs.lemmas.List.{map-append, flat_map_more}
-use Rattle.std.proofs.lemmas.List.Elements.{All-nil, All-cons, All-append, All-weaker}
-use Rattle.std.proofs.lemmas.List.Sums.{sum_by_push}
+use Rattle.std.proofs.lemmas.List.Elements.{All-nil, All-cons, All-head, All-append, All-weaker}
+use Rattle.std.proofs.lemmas.List.Sums.{sum_by-cons, sum_by_push}
+use Rattle.clk_base.specs.declared.block.Block.{Block}
+use Rattle.clk_base.specs.Walk.{EachFrom}
 use Rattle.clk_num.specs.Listed.{Listed}
 use Rattle.clk_ticket.specs.Time.{Time, share_of, both_of}
 use Rattle.clk_words.specs.declared.view.Part.{Part}
 use Rattle.clk_words.specs.declared.view.View.{View}
-use Rattle.clk_words.specs.Calls.{Joins}
+use Rattle.clk_words.specs.Calls.{KeepsOffset, Joins}
 use Rattle.clk_words.specs.Fronts.{Begins}
 use Rattle.clk_words.specs.Held.{Held, place_of}
 use Rattle.clk_words.specs.Parts.{part_of, kept_after}
 use Rattle.clk_words.specs.Rights.{has_number}
 use Rattle.clk_words.specs.Views.{own_lists, joint_made, together}
-use Rattle.clk_words.proofs.Fronts.{begins_through}
+use Rattle.clk_words.proofs.Fronts.{begins_self, begins_through}
 use Rattle.clk_words.proofs.Registers.{joint_at, part_through}
 use Rattle.clk_latch.specs.Epoch.{Place as LatchPlace}
 use Rattle.clk_trace.specs.declared.event.Event.{Event}
 use Rattle.clk_worker.specs.declared.own.Own.{Own}
 use Rattle.clk_worker.specs.declared.shared.Shared.{Shared}
 use Rattle.clk_worker.specs.Making.{Hand}
-use Rattle.clk_threads.specs.Ending.{own_list, owns_of, all_together, StampsBegin, HasGathered}
+use Rattle.clk_trace.specs.declared.trace.WatchTrace.{WatchTrace}
+use Rattle.clk_watcher.specs.Making.{Hand as WatchHand}
+use Rattle.clk_watcher.specs.declared.parts.WatchParts.{WatchParts}
+use Rattle.clk_threads.specs.Finishing.{KnowsNoMore}
+use Rattle.clk_threads.specs.Ending.{own_list, owns_of, all_together, HasGathered, part_list, parts_of, WatchFollows, MayJoinWatch, HasGatheredWatch}
 
 -- ---- many views as one
 
@@ -85,6 +91,27 @@ after_taken v (w ∷ ws) r (suc k) d low none others own =
     (λ j lower. others (suc j) (omega (arith, lower)))
     own
 
+-- ---- what is known through joins
+
+offset_through : (u v w : View) → KeepsOffset u v → KeepsOffset v w → KeepsOffset u w
+offset_through u v w a b =
+    ⊎_elim
+    (λ (none : u.modes.offset ≡ None). inl none)
+    (λ (e : u.modes.offset ≡ v.modes.offset). ⊎_elim (λ (none : v.modes.offset ≡ None). inl (e ∙ none)) (λ (f : v.modes.offset ≡ w.modes.offset). inr (e ∙ f)) b)
+    a
+
+pub known_through : (u v w : View) → KnowsNoMore u v → KnowsNoMore v w → KnowsNoMore u w
+known_through u v w a b = record {
+  parts = λ r. part_through (part_of u.pairs.parts r) (part_of v.pairs.parts r) (part_of w.pairs.parts r) (a.parts r) (b.parts r);
+  offset = offset_through u v w a.offset b.offset;
+}
+
+pub first_known : (a b w : View) → Joins a b w → KnowsNoMore a w
+first_known a b w j = record { parts = j.first_parts; offset = j.first_offset }
+
+pub second_known : (a b w : View) → Joins a b w → KnowsNoMore b w
+second_known a b w j = record { parts = j.second_parts; offset = j.second_offset }
+
 -- ---- one worker more
 
 owns_more : (hands : List Hand) (h : Hand) (o : Own) → h.own ≡ Some o → owns_of (hands ++ h ∷ []) ≡ owns_of hands ++ o ∷ []
@@ -121,8 +148,8 @@ gathered_more s hands first time threads latches whole drawn kept seats g h o wh
     let Seen_as : Own → View = λ x. x.seat.view in
     let Seen : Own → Type 0 = λ x. Begins x.seat.view.seen whole2.view.seen in
     let Before : Own → Type 0 = λ x. Begins x.seat.view.seen whole.view.seen in
-    let Stamps : Own → Type 0 = λ x. StampsBegin x.seat.view whole2.view in
-    let Stamped : Own → Type 0 = λ x. StampsBegin x.seat.view whole.view in
+    let Known : Own → Type 0 = λ x. KnowsNoMore x.seat.view whole2.view in
+    let Knew : Own → Type 0 = λ x. KnowsNoMore x.seat.view whole.view in
     let Latch : Own → LatchPlace = λ x. x.latch_seat in
     let share = j.share in
     let so_far = g.share in
@@ -137,13 +164,13 @@ gathered_more s hands first time threads latches whole drawn kept seats g h o wh
           (All-append Seen (owns_of hands) (o ∷ [])
           (All-weaker Before Seen (λ x b. begins_through x.seat.view.seen whole.view.seen whole2.view.seen b j.joins.first) (owns_of hands) g.seen)
           (All-cons Seen o [] j.joins.second (All-nil Seen)));
-      stamps =
-          subst (All Stamps) (sym (owns_more hands h o j.own))
-          (All-append Stamps (owns_of hands) (o ∷ [])
-          (All-weaker Stamped Stamps
-          (λ x b r. part_through (part_of x.seat.view.pairs.parts r) (part_of whole.view.pairs.parts r) (part_of whole2.view.pairs.parts r) (b r) (j.joins.first_parts r))
-          (owns_of hands) g.stamps)
-          (All-cons Stamps o [] j.joins.second_parts (All-nil Stamps)));
+      known =
+          subst (All Known) (sym (owns_more hands h o j.own))
+          (All-append Known (owns_of hands) (o ∷ [])
+          (All-weaker Knew Known
+          (λ x b. known_through x.seat.view whole.view whole2.view b (first_known whole.view o.seat.view whole2.view j.joins))
+          (owns_of hands) g.known)
+          (All-cons Known o [] (second_known whole.view o.seat.view whole2.view j.joins) (All-nil Known)));
       drawn_own = ap (λ (t : Time). t.table) j.time ∙ g.drawn_own;
       blocks = ap (λ (t : Time). t.blocks) j.time ∙ flat_next (λ (x : Own). x.time.blocks) time.blocks drawn.blocks hands h o j.own g.blocks;
       share = omega (arith, share, so_far, more);
@@ -156,3 +183,69 @@ gathered_more s hands first time threads latches whole drawn kept seats g h o wh
           ∙ append_assoc latches.items (map Latch (owns_of hands)) (o.latch_seat ∷ [])
           ∙ ap (λ (xs : List LatchPlace). latches.items ++ xs) (map_owns Latch hands h o j.own);
     }
+
+-- ---- the watchdog's seats
+
+known_self : (v : View) → KnowsNoMore v v
+known_self v = record { parts = λ r. record { zero_is = inr refl; after = begins_self (part_of v.pairs.parts r).after }; offset = inr refl }
+
+pub watch_none : (s : Shared) (owners : List LatchPlace) (first : Held) (time : Time) → place_of first ≡ s.words → time.table ≡ s.tickets.table
+    → HasGatheredWatch s None owners first time first time None
+watch_none s owners first time place table =
+    record {
+      whole_own = place;
+      view_is = refl;
+      first_seen = begins_self first.view.seen;
+      first_known = known_self first.view;
+      seen = All-nil (λ (x : WatchParts). Begins x.seat.view.seen first.view.seen);
+      known = All-nil (λ (x : WatchParts). KnowsNoMore x.seat.view first.view);
+      drawn_own = table;
+      blocks = sym (append-nil time.blocks);
+      share = omega arith;
+      kept_is = refl;
+      follow = All-nil (λ (x : WatchParts). EachFrom (WatchFollows owners) 0 x.latch_seats.items);
+    }
+
+pub record JoinsWatch (s : Shared) (h : WatchHand) (p : WatchParts) (trace : WatchTrace) (owners : List LatchPlace) (first : Held) (time : Time) (whole : Held) (drawn : Time) : Type 0 where
+  pub parts : h.parts ≡ Some p
+  pub trace_is : h.trace ≡ trace
+  pub place : place_of whole ≡ s.words
+  pub joins : Joins first.view p.seat.view whole.view
+  pub table : time.table ≡ s.tickets.table
+  pub time_is : drawn ≡ both_of time p.time
+  pub share : share_of drawn ≡ share_of time + share_of p.time
+  pub follow : EachFrom (WatchFollows owners) 0 p.latch_seats.items
+
+pub watch_some : (s : Shared) (h : WatchHand) (p : WatchParts) (trace : WatchTrace) (owners : List LatchPlace) (first : Held) (time : Time) (whole : Held) (drawn : Time)
+    → JoinsWatch s h p trace owners first time whole drawn → HasGatheredWatch s (Some h) owners first time whole drawn (Some trace)
+watch_some s h p trace owners first time whole drawn j =
+    let parts : parts_of (Some h) ≡ p ∷ [] = ap (λ (w : Option WatchParts). part_list w ++ []) j.parts in
+    let Seen : WatchParts → Type 0 = λ x. Begins x.seat.view.seen whole.view.seen in
+    let Known : WatchParts → Type 0 = λ x. KnowsNoMore x.seat.view whole.view in
+    let Follows : WatchParts → Type 0 = λ x. EachFrom (WatchFollows owners) 0 x.latch_seats.items in
+    let share = j.share in
+    let one = sum_by-cons (λ (x : WatchParts). share_of x.time) p [] in
+    let sum = ap (sum_by (λ (x : WatchParts). share_of x.time)) parts in
+    record {
+      whole_own = j.place;
+      view_is = j.joins.view_is ∙ sym (ap (λ (ps : List WatchParts). all_together first.view (map (λ (x : WatchParts). x.seat.view) ps)) parts);
+      first_seen = j.joins.first;
+      first_known = first_known first.view p.seat.view whole.view j.joins;
+      seen = subst (All Seen) (sym parts) (All-cons Seen p [] j.joins.second (All-nil Seen));
+      known = subst (All Known) (sym parts) (All-cons Known p [] (second_known first.view p.seat.view whole.view j.joins) (All-nil Known));
+      drawn_own = ap (λ (t : Time). t.table) j.time_is ∙ j.table;
+      blocks =
+          ap (λ (t : Time). t.blocks) j.time_is
+          ∙ ap (λ (bs : List Block). time.blocks ++ bs) (sym (append-nil p.time.blocks) ∙ sym (ap (flat_map (λ (x : WatchParts). x.time.blocks)) parts));
+      share = omega (arith, share, one, sum);
+      kept_is = ap (λ (t : WatchTrace). Some t) (sym j.trace_is);
+      follow = subst (All Follows) (sym parts) (All-cons Follows p [] j.follow (All-nil Follows));
+    }
+
+-- the watchdog's parts, taken out of it, may be joined
+pub joins_one : (s : Shared) (owners : List LatchPlace) (watcher : Option WatchHand) (h : WatchHand) (p : WatchParts) → watcher ≡ Some h → h.parts ≡ Some p
+    → All (MayJoinWatch s owners) (parts_of watcher) → MayJoinWatch s owners p
+joins_one s owners watcher h p is parts all =
+    let May : WatchParts → Type 0 = MayJoinWatch s owners in
+    let one : parts_of watcher ≡ p ∷ [] = ap parts_of is ∙ ap (λ (w : Option WatchParts). part_list w ++ []) parts in
+    All-head May p [] (subst (All May) one all)

@@ -1,17 +1,18 @@
 -- The first seat of the clock words gives each thread's seat, and each owner's once.
-use Rattle.std.proofs.Common.{◌≡◌, ◌≢◌, ℕ, zero, suc, ◌+◌, ◌<◌, ◌≤◌, Bool, true, false, not, cond, ◌||◌, List, [], ◌∷◌, ◌++◌, nat_eq, refl, sym, ap, ◌∙◌, subst, inl, inr, arith, eqb-true}
+use Rattle.std.proofs.Common.{◌≡◌, ◌≢◌, ℕ, zero, suc, ◌+◌, ◌<◌, ◌≤◌, Bool, true, false, not, cond, ◌||◌, List, [], ◌∷◌, ◌++◌, length, nat_eq, refl, sym, ap, ◌∙◌, subst, inl, inr, arith, eqb-true}
 use Rattle.std.proofs.lemmas.Bool.{cases_lt, false≢true}
 use Rattle.std.proofs.lemmas.Bool.Decides.{nat_tests}
 use Rattle.clk_words.specs.declared.kind.SeatKind.{SeatKind}
 use Rattle.clk_words.specs.declared.kind.SeatKind.TheVariants.{Owner, Reader, Watch}
 use Rattle.clk_words.specs.declared.opening.Start.{Start}
 use Rattle.clk_words.specs.declared.view.View.{View}
+use Rattle.clk_words.specs.Kinds.{is_watch}
 use Rattle.clk_words.specs.Rights.{has_kind, has_number, owners_below, gives_without, owns_without}
 use Rattle.clk_words.specs.Held.{Place}
 use Rattle.clk_words.specs.Views.{first_view, giver_view}
 use Rattle.clk_words.specs.Knowing.{MayGive, MaySplit}
-use Rattle.clk_machine.specs.Plan.{Plan, cpu_count}
-use Rattle.clk_threads.specs.Preparing.{kind_on, gave, thread_seat, thread_seats}
+use Rattle.clk_machine.specs.Plan.{Plan, cpu_count, threads_of}
+use Rattle.clk_threads.specs.Preparing.{kind_on, gave, gave_threads, thread_seat, thread_seats}
 use Rattle.clk_threads.proofs.Numbering.{kind_owner, kind_reader}
 
 pub gave_start : (m : Plan) (n : ℕ) (v : View) → (gave m n v).start ≡ v.start
@@ -75,6 +76,49 @@ may_split m start n cpus =
             | inr past ↦ subst (MayGive v) (sym (kind_reader m n past)) tt
           ];
     }
+
+-- ---- the watchdog's right
+
+-- to give another kind away leaves it
+watch_left : (kind : SeatKind) (kinds : List SeatKind) → is_watch kind ≡ false → has_kind kinds Watch ≡ true → has_kind (gives_without kind kinds) Watch ≡ true
+watch_left Watch kinds other e = absurd (false≢true (sym other))
+watch_left (Owner d) [] other e = absurd (cc)
+watch_left (Owner d) (Watch ∷ kinds) other e = refl
+watch_left (Owner d) (Reader b ∷ kinds) other e = watch_left (Owner d) kinds other e
+watch_left (Owner d) (Owner b ∷ kinds) other e = at (nat_eq b d) (watch_left (Owner d) kinds other e)
+  where
+    at : (t : Bool) → has_kind (gives_without (Owner d) kinds) Watch ≡ true
+        → has_kind (cond (not t) (Owner b ∷ gives_without (Owner d) kinds) (gives_without (Owner d) kinds)) Watch ≡ true
+    at true rest = rest
+    at false rest = rest
+watch_left (Reader d) [] other e = absurd (cc)
+watch_left (Reader d) (Watch ∷ kinds) other e = refl
+watch_left (Reader d) (Owner b ∷ kinds) other e = watch_left (Reader d) kinds other e
+watch_left (Reader d) (Reader b ∷ kinds) other e = at (nat_eq b d) (watch_left (Reader d) kinds other e)
+  where
+    at : (t : Bool) → has_kind (gives_without (Reader d) kinds) Watch ≡ true
+        → has_kind (cond (not t) (Reader b ∷ gives_without (Reader d) kinds) (gives_without (Reader d) kinds)) Watch ≡ true
+    at true rest = rest
+    at false rest = rest
+
+-- no thread's seat is the watchdog's
+pub not_watch : (m : Plan) (thread : ℕ) → is_watch (kind_on m thread) ≡ false
+not_watch m thread =
+    elim (cases_lt thread (cpu_count m)) [
+      | inl low ↦ ap is_watch (kind_owner m thread low)
+      | inr past ↦ ap is_watch (kind_reader m thread past)
+    ]
+
+watch_kept : (m : Plan) (n : ℕ) (start : Start) → has_kind (gave m n (first_view start)).gives Watch ≡ true
+watch_kept m zero start = refl
+watch_kept m (suc n) start = watch_left (kind_on m n) (gave m n (first_view start)).gives (not_watch m n) (watch_kept m n start)
+
+-- so the first seat may give it after those of all threads
+pub may_watch : (m : Plan) (start : Start) → MaySplit (gave_threads m start) Watch
+may_watch m start =
+    let n : ℕ = length (threads_of m) in
+    let made = gave_made m n (first_view start) in
+    record { first = omega (arith, made); gives = watch_kept m n start }
 
 -- ---- what the first seat owns no more
 

@@ -21,7 +21,7 @@ use Rattle.clk_trace.proofs.Gaining.{each_from}
 use Rattle.clk_worker.specs.declared.shared.Shared.{Shared}
 use Rattle.clk_threads.specs.Preparing.{epoch_on, IsOfLatch, IsLatchSeat, HaveLatches}
 use Rattle.clk_threads.specs.declared.latches.Latches.{Latches}
-use Rattle.clk_threads.specs.Ending.{FitsLatch, FitLatches, RecordsBegin}
+use Rattle.clk_threads.specs.Ending.{FitsLatch, FitLatches, RecordsBegin, IsOwnerLeft, AreOwnersLeft, IsAtLatch, IsOwnerAt, FitWatch, WatchFollows}
 use Rattle.clk_threads.proofs.LawfulLists.{owner_cpu, thread_cpu}
 use Rattle.clk_threads.proofs.Numbering.{each_of, threads_cover, cpu_low, own_thread, other_thread}
 
@@ -287,3 +287,146 @@ joined_all m all seats h count =
           subst (λ (y : LatchPlace). IsPrefix (get_or all k d).epoch.records y.epoch.records) same (prefix_self (get_or all k d).epoch.records)
       | inr past ↦ h.joined k d x (omega (arith, past, count)) low
     ]))
+
+-- those of the owners are left
+pub owners_left : (s : Shared) (all seats : List LatchPlace) → FitLatches s all → HaveJoined s.machine all seats → length seats ≡ cpu_count s.machine
+    → AreOwnersLeft s all seats
+owners_left s all seats fit h count =
+    let m : Plan = s.machine in
+    record {
+      count = count;
+      each =
+          each_from (IsOwnerLeft s all) 0 seats (λ k d low.
+          let e : k ≡ 0 + k = omega arith in
+          let own : k < cpu_count m = omega (arith, low, count) in
+          let within = cpu_low m k own in
+          let many = fit.count in
+          let there : k < length all = omega (arith, within, many) in
+          let o : LatchPlace = get_or seats k d in
+          let was : LatchPlace = get_or all k d in
+          let is : IsOwnedAs was o = h.owners k d own in
+          let f : FitsLatch s k was = each_of (FitsLatch s) all k d there fit.each in
+          let latches = fit.latches in
+          let at : k < length s.epochs.items = omega (arith, own, latches) in
+          subst (λ (i : ℕ). IsOwnerLeft s all i o) e
+          (record {
+            latch = is.latch ∙ f.latch ∙ ap (λ (i : ℕ). get_or s.epochs.items i was.latch) (owner_cpu m k own)
+                ∙ get_or_default s.epochs.items k was.latch o.latch at;
+            owner = is.owner;
+            records = λ x. is.records ∙ ap (λ (y : LatchPlace). y.epoch.records) (get_or_default all k d x there);
+          }));
+    }
+
+-- ---- the watchdog's, from the last on
+
+-- those of the last CPUs were joined, and the others are left
+pub record HaveMet (all_owners all_watch owners watch : List LatchPlace) : Type 0 where
+  pub few : length watch ≤ length all_watch
+  pub same : length owners ≡ length watch
+  pub owners_are : (k : ℕ) (d : LatchPlace) → k < length owners → get_or owners k d ≡ get_or all_owners k d
+  pub watch_are : (k : ℕ) (d : LatchPlace) → k < length watch → get_or watch k d ≡ get_or all_watch k d
+  pub met : (k : ℕ) (d e : LatchPlace) → length watch ≤ k → k < length all_watch → IsPrefix (get_or all_watch k d).epoch.records (get_or all_owners k e).epoch.records
+
+pub met_none : (s : Shared) (owners watch : List LatchPlace) → FitWatch s owners watch → HaveMet owners watch owners watch
+met_none s owners watch fit =
+    let count = fit.count in
+    record {
+      few = omega arith;
+      same = sym count;
+      owners_are = λ k d low. refl;
+      watch_are = λ k d low. refl;
+      met = λ k d e past low. absurd (omega (arith, past, low));
+    }
+
+-- the last two
+pub record TakesBoth (owners owners_front watch watch_front : List LatchPlace) (owner reader : LatchPlace) : Type 0 where
+  pub owners_last : owners_front ++ owner ∷ [] ≡ owners
+  pub watch_last : watch_front ++ reader ∷ [] ≡ watch
+
+last_at : (xs front : List LatchPlace) (x d : LatchPlace) → front ++ x ∷ [] ≡ xs → get_or xs (length front) d ≡ x
+last_at xs front x d is = ap (λ (ys : List LatchPlace). get_or ys (length front) d) (sym is) ∙ get_or-append_seam front x [] d
+
+before_last : (xs front : List LatchPlace) (x : LatchPlace) (k : ℕ) (d : LatchPlace) → front ++ x ∷ [] ≡ xs → k < length front → get_or front k d ≡ get_or xs k d
+before_last xs front x k d is low = front_at xs front x k d (sym is) low
+
+front_length : (xs front : List LatchPlace) (x : LatchPlace) → front ++ x ∷ [] ≡ xs → length xs ≡ length front + 1
+front_length xs front x is = ap length (sym is) ∙ length-append front (x ∷ [])
+
+pub met_owner : (s : Shared) (all_owners all_watch owners owners_front watch watch_front : List LatchPlace) (owner reader : LatchPlace)
+    → FitWatch s all_owners all_watch → HaveMet all_owners all_watch owners watch → TakesBoth owners owners_front watch watch_front owner reader
+    → IsOwnerAt s (length watch_front) owner
+met_owner s all_owners all_watch owners owners_front watch watch_front owner reader fit h t =
+    let n : ℕ = length watch_front in
+    let long = front_length owners owners_front owner t.owners_last in
+    let wide = front_length watch watch_front reader t.watch_last in
+    let same = h.same in
+    let few = h.few in
+    let count = fit.count in
+    let at : length owners_front ≡ n = omega (arith, long, wide, same) in
+    let is : get_or all_owners n owner ≡ owner =
+    sym (h.owners_are n owner (omega (arith, long, at))) ∙ ap (λ (i : ℕ). get_or owners i owner) (sym at) ∙ last_at owners owners_front owner owner t.owners_last in
+    subst (IsOwnerAt s n) is (each_of (IsOwnerAt s) all_owners n owner (omega (arith, wide, few, count)) fit.owners_fit)
+
+pub met_reader : (s : Shared) (all_owners all_watch owners owners_front watch watch_front : List LatchPlace) (owner reader : LatchPlace)
+    → FitWatch s all_owners all_watch → HaveMet all_owners all_watch owners watch → TakesBoth owners owners_front watch watch_front owner reader
+    → IsAtLatch s (length watch_front) reader
+met_reader s all_owners all_watch owners owners_front watch watch_front owner reader fit h t =
+    let n : ℕ = length watch_front in
+    let wide = front_length watch watch_front reader t.watch_last in
+    let few = h.few in
+    let is : get_or all_watch n reader ≡ reader =
+    sym (h.watch_are n reader (omega (arith, wide))) ∙ last_at watch watch_front reader reader t.watch_last in
+    subst (IsAtLatch s n) is (each_of (IsAtLatch s) all_watch n reader (omega (arith, wide, few)) fit.watch_fit)
+
+pub met_more : (s : Shared) (all_owners all_watch owners owners_front watch watch_front : List LatchPlace) (owner reader joint : LatchPlace)
+    → FitWatch s all_owners all_watch → HaveMet all_owners all_watch owners watch → TakesBoth owners owners_front watch watch_front owner reader
+    → Joins owner.epoch reader.epoch joint.epoch → HaveMet all_owners all_watch owners_front watch_front
+met_more s all_owners all_watch owners owners_front watch watch_front owner reader joint fit h t joins =
+    record {
+      few = omega (arith, wide, few);
+      same = at;
+      owners_are = λ k d low. before_last owners owners_front owner k d t.owners_last low ∙ h.owners_are k d (omega (arith, low, long));
+      watch_are = λ k d low. before_last watch watch_front reader k d t.watch_last low ∙ h.watch_are k d (omega (arith, low, wide));
+      met = λ k d e past low. now k d e low (nat_eq k (length watch_front)) refl past;
+    }
+  where
+    long : length owners ≡ length owners_front + 1
+    long = front_length owners owners_front owner t.owners_last
+
+    wide : length watch ≡ length watch_front + 1
+    wide = front_length watch watch_front reader t.watch_last
+
+    few : length watch ≤ length all_watch
+    few = h.few
+
+    at : length owners_front ≡ length watch_front
+    at = let same = h.same in omega (arith, long, wide, same)
+
+    owner_is : (e : LatchPlace) → get_or all_owners (length watch_front) e ≡ owner
+    owner_is e =
+        sym (h.owners_are (length watch_front) e (omega (arith, long, at))) ∙ ap (λ (i : ℕ). get_or owners i e) (sym at) ∙ last_at owners owners_front owner e t.owners_last
+
+    reader_is : (d : LatchPlace) → get_or all_watch (length watch_front) d ≡ reader
+    reader_is d = sym (h.watch_are (length watch_front) d (omega (arith, wide))) ∙ last_at watch watch_front reader d t.watch_last
+
+    right : owner.epoch.owner ≡ true
+    right = (met_owner s all_owners all_watch owners owners_front watch watch_front owner reader fit h t).1
+
+    now : (k : ℕ) (d e : LatchPlace) → k < length all_watch → (b : Bool) → nat_eq k (length watch_front) ≡ b → length watch_front ≤ k
+        → IsPrefix (get_or all_watch k d).epoch.records (get_or all_owners k e).epoch.records
+    now k d e low true is past =
+        let same : k ≡ length watch_front = eqb-true k (length watch_front) is in
+        subst (λ (i : ℕ). IsPrefix (get_or all_watch i d).epoch.records (get_or all_owners i e).epoch.records) (sym same)
+        (subst (λ (x : LatchPlace). IsPrefix x.epoch.records (get_or all_owners (length watch_front) e).epoch.records) (sym (reader_is d))
+        (subst (λ (x : LatchPlace). IsPrefix reader.epoch.records x.epoch.records) (sym (owner_is e))
+        (subst (IsPrefix reader.epoch.records) (joins.first_owner right) joins.second)))
+    now k d e low false is past =
+        let later : length watch_front + 1 ≤ k = grind (arith, nat_tests) in
+        h.met k d e (omega (arith, later, wide)) low
+
+pub met_all : (all_owners all_watch owners watch : List LatchPlace) → HaveMet all_owners all_watch owners watch → length watch ≡ 0
+    → EachFrom (WatchFollows all_owners) 0 all_watch
+met_all all_owners all_watch owners watch h none =
+    each_from (WatchFollows all_owners) 0 all_watch (λ k d low.
+    let e : k ≡ 0 + k = omega arith in
+    subst (λ (i : ℕ). WatchFollows all_owners i (get_or all_watch k d)) e (λ x. h.met k d x (omega (arith, none)) low))

@@ -1,19 +1,23 @@
--- The tickets of a run of several threads: those of the boot and the bring-up first, then each thread's, which rise by
--- themselves.
+-- The tickets of a run of several threads: those of the boot, the bring-up and a demotion at boot first, then each
+-- thread's, which rise by themselves.
 use Rattle.std.proofs.Common.{◌≡◌, ℕ, ◌+◌, ◌≤◌, List, [], ◌∷◌, ◌++◌, map, refl, ap, ◌∙◌, sym, subst, arith}
 use Rattle.std.specs.List.{All, flat_map}
-use Rattle.std.proofs.lemmas.List.Elements.{All-nil, All-cons}
+use Rattle.std.proofs.lemmas.List.Elements.{All-nil, All-cons, All-head, All-tail}
 use Rattle.clk_base.specs.declared.block.Block.{Block}
-use Rattle.clk_base.specs.Blocks.{RisesFrom}
+use Rattle.clk_base.specs.Blocks.{end_of, AllEndBy, RisesFrom, top_of}
 use Rattle.clk_base.specs.Walk.{EachFrom}
 use Rattle.clk_ticket.specs.Time.{Time, Draws}
 use Rattle.clk_local.specs.Context.{Site, Known}
-use Rattle.clk_trace.specs.TicketOrder.{blocks_of, blocks_of_kind, thread_blocks}
+use Rattle.clk_words.specs.declared.step.Step.{Step}
+use Rattle.clk_machine.specs.Plan.{Plan}
+use Rattle.clk_trace.specs.Checks.{listed, demotion_blocks}
+use Rattle.clk_trace.specs.TicketOrder.{blocks_of, blocks_of_kind, boot_blocks, up_blocks, first_blocks, thread_blocks}
+use Rattle.clk_trace.specs.declared.trace.Trace.{Trace}
 use Rattle.clk_trace.specs.declared.event.Event.{Event}
 use Rattle.clk_trace.specs.declared.event.EventKind.{EventKind}
 use Rattle.clk_trace.specs.declared.event.EventKind.TheVariants.{Stable, Local, Couple, Stamp, Nothing, Update, Pause}
 use Rattle.clk_worker.specs.Running.{Shows, Runs, at_call}
-use Rattle.clk_threads.specs.Finishing.{Ran, events_of}
+use Rattle.clk_threads.specs.Finishing.{Ran, events_of, IsRunOf}
 
 -- ---- a thread's blocks rise from what its seat had seen
 
@@ -33,20 +37,22 @@ FollowSeen w rest = (k : ℕ) → k ≤ w.time.seen → RisesFrom k rest
 
 shows_rise : (z : Site) (v : Known) (k : EventKind) (w : Known) (n : ℕ) (rest : List Block) → Shows z v k w → n ≤ v.time.seen → FollowSeen w rest
     → RisesFrom n (blocks_of_kind k ++ rest)
-shows_rise z v (Stable raw value) w n rest h low later = absurd h
+shows_rise z v (Stable raw value) w n rest h low later =
+    let d = h.stable.reads.draws in (low_seen n v.time raw.ticket 1 w.time low d, later (raw.ticket + 1) (drawn_seen v.time raw.ticket 1 w.time d))
 shows_rise z v (Local raw tick_raw tick_gtod offset old new) w n rest h low later =
     let d = h.raised.reads.draws in (low_seen n v.time raw.ticket 1 w.time low d, later (raw.ticket + 1) (drawn_seen v.time raw.ticket 1 w.time d))
 shows_rise z v (Couple asked own other word old new) w n rest h low later = later n (same_seen n v.time w.time h.coupled.time_is low)
 shows_rise z v (Stamp gtod_ticket gtod raw) w n rest h low later =
-    let d = h.draws in
-    let e = h.reads.draws in (
-      low_seen n v.time gtod_ticket 1 h.middle low d,
+    let middle : Time = h.stamps.middle in
+    let d = h.stamps.draws in
+    let e = h.stamps.reads.draws in (
+      low_seen n v.time gtod_ticket 1 middle low d,
       (
-        low_seen (gtod_ticket + 1) h.middle raw.ticket 1 w.time (drawn_seen v.time gtod_ticket 1 h.middle d) e,
-        later (raw.ticket + 1) (drawn_seen h.middle raw.ticket 1 w.time e),
+        low_seen (gtod_ticket + 1) middle raw.ticket 1 w.time (drawn_seen v.time gtod_ticket 1 middle d) e,
+        later (raw.ticket + 1) (drawn_seen middle raw.ticket 1 w.time e),
       ),
     )
-shows_rise z v Nothing w n rest h low later = absurd h
+shows_rise z v Nothing w n rest h low later = later n (same_seen n v.time w.time (ap (λ (x : Known). x.time) h.same) low)
 shows_rise z v (Update p) w n rest h low later =
     (low_seen n v.time p.ticket 1 w.time low h.draws, later (p.ticket + 1) (drawn_seen v.time p.ticket 1 w.time h.draws))
 shows_rise z v (Pause ticket count) w n rest h low later =
@@ -57,6 +63,29 @@ runs_rise z v [] w n r low = tt
 runs_rise z v (e ∷ es) w n r low =
     shows_rise (at_call z e.call) r.0 e.kind r.1 n (flat_map blocks_of es) r.3 (same_seen n v.time r.0.time r.2.time_is low)
     (λ k high. runs_rise z r.1 es w k r.4 high)
+
+-- ---- what was drawn before the scripts
+
+-- blocks that end by n have their top there
+pub top_low : (k n : ℕ) (bs : List Block) → k ≤ n → AllEndBy n bs → top_of k bs ≤ n
+top_low k n [] low ends = low
+top_low k n (b ∷ bs) low ends = top_low (end_of b) n bs (All-head (λ (c : Block). end_of c ≤ n) b bs ends) (All-tail (λ (c : Block). end_of c ≤ n) b bs ends)
+
+-- it is what the trace shows of that
+pub first_is : (m : Plan) (t : Trace) (closed : List Step) (run : IsRunOf m t closed) → run.booted.blocks ≡ first_blocks t
+first_is m t closed run =
+    run.drawn.blocks
+    ∙ ap (λ (k : ℕ). boot_blocks k t.boots.items ++ up_blocks t.ups.cpus.items ++ flat_map demotion_blocks (listed t.boot_demotion)) (sym run.epoch_ticket)
+
+-- and ended by what the seat had seen then
+pub first_low : (m : Plan) (t : Trace) (closed : List Step) (run : IsRunOf m t closed) → top_of 0 (first_blocks t) ≤ run.booted.seen
+first_low m t closed run =
+    top_low 0 run.booted.seen (first_blocks t) (omega arith) (subst (AllEndBy run.booted.seen) (first_is m t closed run) run.drawn.ends)
+
+-- blocks that rise from one number rise from a lower one
+pub rises_lower : (k n : ℕ) (bs : List Block) → k ≤ n → RisesFrom n bs → RisesFrom k bs
+rises_lower k n [] low h = tt
+rises_lower k n (b ∷ bs) low h = let from = h.0 in (omega (arith, low, from), h.1)
 
 -- ---- all threads
 

@@ -36,7 +36,8 @@ use Rattle.clk_threads.specs.Finishing.{Ran, events_of, IsGiven, site_on, RanWho
 use Rattle.clk_threads.specs.Workers.{HasRun}
 use Rattle.clk_threads.specs.Ending.{shared_of, own_list, owns_of, MayJoin, FitsLatch}
 use Rattle.clk_threads.specs.declared.prepared.Prepared.{Prepared}
-use Rattle.clk_threads.proofs.Beginning.{fresh_own, post_at, IsFresh, fit, given_all, may_begin}
+use Rattle.clk_threads.proofs.Beginning.{fresh_own, post_at, IsFresh, given_all, may_begin}
+use Rattle.clk_threads.proofs.Giving.{not_watch}
 use Rattle.clk_threads.proofs.LawfulLists.{thread_cpu}
 use Rattle.clk_threads.proofs.Numbering.{kind_cpu}
 
@@ -49,16 +50,16 @@ pub record HasLeft (p : Prepared) (booted : Time) (thread : ℕ) (h : Hand) : Ty
   pub own_is : h.own ≡ Some own
   pub made : HasMade (shared_of p) (post_at p thread) (fresh_own p booted latch thread) (length (thread_at p.machine thread).1) own h.events
 
-pub going_first : (p : Prepared) (ip : IsPrepared p.machine p) → p.machine.stable ≡ false → (thread : ℕ) (h : Hand) → thread < length (threads_of p.machine)
+pub going_first : (p : Prepared) (ip : IsPrepared p.machine p) (thread : ℕ) (h : Hand) → thread < length (threads_of p.machine)
     → IsFresh p ip.booted thread h → IsGoing (shared_of p) h h
-going_first p ip percpu thread h low f =
+going_first p ip thread h low f =
     subst (λ (x : Hand). IsGoing (shared_of p) x x) (sym f.hand)
-    (begins (post_at p thread) (fresh_own p ip.booted f.latch thread) (no_events (thread_at p.machine thread)) (shared_of p) (may_begin p ip percpu f.latch thread low f.there))
+    (begins (post_at p thread) (fresh_own p ip.booted f.latch thread) (no_events (thread_at p.machine thread)) (shared_of p) (may_begin p ip f.latch thread low f.there))
 
-pub has_left : (p : Prepared) (ip : IsPrepared p.machine p) → p.machine.stable ≡ false → (thread : ℕ) (h w : Hand) → thread < length (threads_of p.machine)
+pub has_left : (p : Prepared) (ip : IsPrepared p.machine p) (thread : ℕ) (h w : Hand) → thread < length (threads_of p.machine)
     → IsFresh p ip.booted thread h → HasRun (shared_of p) h w → HasLeft p ip.booted thread w
-has_left p ip percpu thread h w low f ran =
-    let g : IsGoing (shared_of p) h w = ran.went h (going_first p ip percpu thread h low f) in
+has_left p ip thread h w low f ran =
+    let g : IsGoing (shared_of p) h w = ran.went h (going_first p ip thread h low f) in
     let o : Own = fresh_own p ip.booted f.latch thread in
     let began : g.began ≡ o =
     (let first = g.began_is in let is = ap (λ (x : Hand). x.own) f.hand in some_is g.began o (sym first ∙ is)) in
@@ -81,22 +82,33 @@ has_left p ip percpu thread h w low f ran =
 abbrev pub ran_of : (p : Prepared) (booted : Time) (thread : ℕ) (h : Hand) → HasLeft p booted thread h → Ran
 ran_of p booted thread h l = record { began = has (fresh_own p booted l.latch thread); ended = has l.own; events = h.events }
 
-pub given : (p : Prepared) (ip : IsPrepared p.machine p) → p.machine.stable ≡ false → (thread : ℕ)
-    → IsGiven (start_of p.machine p.stamps.items) thread (kind_on p.machine thread) (thread_seat p.machine p.opened.words thread).view
-given p ip percpu thread =
+pub given : (p : Prepared) (ip : IsPrepared p.machine p) (thread : ℕ)
+    → IsGiven (start_of p.machine p.stamps.items p.boot_demotion) thread (kind_on p.machine thread) (thread_seat p.machine p.opened.words thread).view
+given p ip thread =
     let start = p.opened.words.start in
-    let all = given_all p.machine start (fit p ip percpu).percpu thread in
+    let all = given_all p.machine start thread in
     let v : View = (thread_seat p.machine p.opened.words thread).view in
     subst (λ (s : Start). IsGiven s thread (kind_on p.machine thread) v) ip.opened.start
-    (record { start_is = all.start_is; number_is = all.made; kind_is = refl; mine_is = refl; seen_is = all.seen; parts_is = all.parts; owns_is = refl })
+    (record {
+      start_is = all.start_is;
+      number_is = all.made;
+      kind_is = refl;
+      mine_is = refl;
+      seen_is = all.seen;
+      parts_is = all.parts;
+      found_is = all.found;
+      offset_is = all.offset;
+      watch_is = not_watch p.machine thread;
+      owns_is = refl;
+    })
 
-pub ran_whole : (p : Prepared) (ip : IsPrepared p.machine p) → p.machine.stable ≡ false → (thread : ℕ) (h : Hand) (l : HasLeft p ip.booted thread h)
-    → RanWhole p.machine p.up.cpus.items (start_of p.machine p.stamps.items) ip.booted.seen thread (ran_of p ip.booted thread h l)
-ran_whole p ip percpu thread h l =
+pub ran_whole : (p : Prepared) (ip : IsPrepared p.machine p) (thread : ℕ) (h : Hand) (l : HasLeft p ip.booted thread h)
+    → RanWhole p.machine p.stamps.items p.up.cpus.items (start_of p.machine p.stamps.items p.boot_demotion) ip.booted.seen thread (ran_of p ip.booted thread h l)
+ran_whole p ip thread h l =
     let cpu : ℕ = (thread_at p.machine thread).0 in
     let ws : List Word = (thread_at p.machine thread).1 in
     record {
-      given = given p ip percpu thread;
+      given = given p ip thread;
       owner = refl;
       records = refl;
       blocks = refl;
@@ -106,16 +118,15 @@ ran_whole p ip percpu thread h l =
     }
 
 -- what its events show
-pub left_shows : (p : Prepared) (ip : IsPrepared p.machine p) → p.machine.stable ≡ false → (thread : ℕ) (h : Hand) → thread < length (threads_of p.machine)
+pub left_shows : (p : Prepared) (ip : IsPrepared p.machine p) (thread : ℕ) (h : Hand) → thread < length (threads_of p.machine)
     → (l : HasLeft p ip.booted thread h)
-    → HasShown (site_on p.machine p.up.cpus.items (thread_at p.machine thread).0) (start_of p.machine p.stamps.items) thread (has (fresh_own p ip.booted l.latch thread)) h.events.items (has l.own)
-left_shows p ip percpu thread h low l =
+    → HasShown (site_on p.machine p.stamps.items p.up.cpus.items (thread_at p.machine thread).0) (start_of p.machine p.stamps.items p.boot_demotion) thread (has (fresh_own p ip.booted l.latch thread)) h.events.items (has l.own)
+left_shows p ip thread h low l =
     let m = p.machine in
-    let start = start_of m p.stamps.items in
-    let g = given p ip percpu thread in
-    let fresh : IsFreshThread (site_on m p.up.cpus.items (thread_at m thread).0) start thread (has (fresh_own p ip.booted l.latch thread)) = record {
+    let start = start_of m p.stamps.items p.boot_demotion in
+    let g = given p ip thread in
+    let fresh : IsFreshThread (site_on m p.stamps.items p.up.cpus.items (thread_at m thread).0) start thread (has (fresh_own p ip.booted l.latch thread)) = record {
       home = record {
-        percpu = ap (λ (s : Start). s.opening.mode) (sym ip.opened.start) ∙ (fit p ip percpu).percpu;
         start_is = g.start_is;
         number_is = g.number_is;
         cpu_is = kind_cpu m thread;
@@ -125,8 +136,10 @@ left_shows p ip percpu thread h low l =
       legal = subst (IsGlobalHistory start) (sym g.seen_is) tt;
       records = refl;
       parts = g.parts_is;
+      found = g.found_is;
+      offset = g.offset_is;
     } in
-    has_run (site_on m p.up.cpus.items (thread_at m thread).0) start thread (has (fresh_own p ip.booted l.latch thread)) h.events.items (has l.own) fresh l.made.runs
+    has_run (site_on m p.stamps.items p.up.cpus.items (thread_at m thread).0) start thread (has (fresh_own p ip.booted l.latch thread)) h.events.items (has l.own) fresh l.made.runs
 
 -- nothing that no event changes was changed
 left_fixed : (p : Prepared) (booted : Time) (thread : ℕ) (h : Hand) (l : HasLeft p booted thread h)
@@ -140,12 +153,12 @@ pub left_owns : (p : Prepared) (booted : Time) (thread : ℕ) (h : Hand) (l : Ha
 left_owns p booted thread h l = ap (λ (x : Fixed). x.owns) (left_fixed p booted thread h l)
 
 -- the own list of its seat: its number is one higher than the thread's
-pub left_lists : (p : Prepared) (ip : IsPrepared p.machine p) → p.machine.stable ≡ false → (thread : ℕ) (h : Hand) (l : HasLeft p ip.booted thread h)
+pub left_lists : (p : Prepared) (ip : IsPrepared p.machine p) (thread : ℕ) (h : Hand) (l : HasLeft p ip.booted thread h)
     → own_lists l.own.seat.view ≡ (thread + 1, l.own.seat.view.mine) ∷ []
-left_lists p ip percpu thread h l =
+left_lists p ip thread h l =
     let v : View = l.own.seat.view in
     let same = left_fixed p ip.booted thread h l in
-    let number : v.number ≡ thread + 1 = ap (λ (x : Fixed). x.number) same ∙ (given p ip percpu thread).number_is in
+    let number : v.number ≡ thread + 1 = ap (λ (x : Fixed). x.number) same ∙ (given p ip thread).number_is in
     let joined : v.joined ≡ [] = ap (λ (x : Fixed). x.joined) same in
     ap (λ (n : ℕ). (n, v.mine) ∷ v.joined) number ∙ ap (λ (js : List (ℕ × List Step)). (thread + 1, v.mine) ∷ js) joined
 
@@ -267,14 +280,14 @@ abbrev pub lists_from : ℕ → List Ran → List (ℕ × List Step)
 lists_from n [] = []
 lists_from n (r ∷ rans) = (n + 1, r.ended.view.mine) ∷ lists_from (n + 1) rans
 
-pub rans_lists : (p : Prepared) (ip : IsPrepared p.machine p) → p.machine.stable ≡ false → (n : ℕ) (hands : List Hand) → (each : EachFrom (HasLeft p ip.booted) n hands)
+pub rans_lists : (p : Prepared) (ip : IsPrepared p.machine p) (n : ℕ) (hands : List Hand) → (each : EachFrom (HasLeft p ip.booted) n hands)
     → flat_map own_lists (map (λ (o : Own). o.seat.view) (owns_of hands)) ≡ lists_from n (rans_of p ip.booted n hands each)
-rans_lists p ip percpu n [] each = refl
-rans_lists p ip percpu n (h ∷ hands) each =
+rans_lists p ip n [] each = refl
+rans_lists p ip n (h ∷ hands) each =
     let Seen_as : Own → View = λ o. o.seat.view in
     ap (λ (os : List Own). flat_map own_lists (map Seen_as os)) (owns_cons h hands each.0.own each.0.own_is)
-    ∙ ap (λ (xs : List (ℕ × List Step)). xs ++ flat_map own_lists (map Seen_as (owns_of hands))) (left_lists p ip percpu n h each.0)
-    ∙ ap (λ (xs : List (ℕ × List Step)). (n + 1, each.0.own.seat.view.mine) ∷ xs) (rans_lists p ip percpu (n + 1) hands each.1)
+    ∙ ap (λ (xs : List (ℕ × List Step)). xs ++ flat_map own_lists (map Seen_as (owns_of hands))) (left_lists p ip n h each.0)
+    ∙ ap (λ (xs : List (ℕ × List Step)). (n + 1, each.0.own.seat.view.mine) ∷ xs) (rans_lists p ip (n + 1) hands each.1)
 
 pub lists_steps : (n : ℕ) (rans : List Ran) → flat_map (λ (own : ℕ × List Step). own.1) (lists_from n rans) ≡ flat_map (λ (r : Ran). r.ended.view.mine) rans
 lists_steps n [] = refl

@@ -1,6 +1,6 @@
 -- The lists of a run have room: a thread makes no more steps on a clock word than its script calls for.
-use Rattle.std.proofs.Common.{◌≡◌, ℕ, ◌+◌, ◌^◌, ◌<◌, ◌≤◌, ℤ, Bool, true, false, cond, nat_eq, List, [], ◌∷◌, ◌++◌, map, length, get_or, refl, sym, ap, ◌∙◌, subst, arith, length-append}
-use Rattle.std.specs.Prelude.{MatchBool}
+use Rattle.std.proofs.Common.{◌≡◌, ℕ, ◌+◌, ◌^◌, ◌<◌, ◌≤◌, ℤ, Bool, true, false, cond, nat_eq, List, [], ◌∷◌, ◌++◌, map, length, get_or, Option, refl, sym, ap, ◌∙◌, subst, arith, length-append}
+use Rattle.std.specs.Prelude.{MatchBool, IfSome}
 use Rattle.std.specs.List.{All, sum_by}
 use Rattle.std.proofs.lemmas.List.{length-map}
 use Rattle.std.proofs.lemmas.List.Elements.{All-nil, All-cons, All-head, All-tail, All-map, All-from_get_or, filter-append}
@@ -17,20 +17,23 @@ use Rattle.clk_words.specs.declared.step.Why.TheVariants as why
 use Rattle.clk_trace.specs.Couples.{CouplesLower, named_word, named_value}
 use Rattle.clk_trace.specs.Filling.{NamesWordsBelow, MayFill, lines_on}
 use Rattle.clk_trace.specs.ScriptEvents.{IsReading, IsRemoteReading, IsTick, IsUpdate, IsPause, Calls, events_at, AreEventsOf}
-use Rattle.clk_trace.specs.WordHistory.{Placed, steps_of_kind, steps_from, all_steps, steps_on, line_of}
+use Rattle.clk_trace.specs.WordHistory.{Placed, steps_of_kind, steps_from, all_steps, lift_steps, steps_on, line_of}
 use Rattle.clk_trace.specs.declared.event.Event.{Event}
 use Rattle.clk_trace.specs.declared.event.EventKind.{EventKind}
 use Rattle.clk_trace.specs.declared.event.EventKind.TheVariants.{Stable, Local, Couple, Stamp, Nothing, Update, Pause}
 use Rattle.clk_trace.specs.declared.trace.HistoryStep.{HistoryStep}
+use Rattle.clk_trace.specs.declared.trace.WatchTrace.{WatchTrace}
+use Rattle.clk_trace.specs.Standing.{lifts_by}
 use Rattle.clk_worker.specs.Making.{Hand}
 use Rattle.clk_worker.proofs.Scripts.{thread_words}
-use Rattle.clk_threads.specs.Preparing.{steps_room, no_steps, histories_below, IsPrepared}
+use Rattle.clk_threads.specs.Preparing.{lifts_room, steps_room, no_steps, histories_below, IsPrepared}
 use Rattle.clk_threads.specs.Ending.{begun_trace, whole_trace}
 use Rattle.clk_threads.specs.declared.prepared.Prepared.{Prepared}
 use Rattle.clk_threads.proofs.Built.{IsBuilt, built_count, built_at}
 use Rattle.clk_threads.proofs.LawfulLists.{threads_at, cpus_count, thread_cpu}
 use Rattle.clk_threads.proofs.Leaving.{HasLeft, ran_whole, left_shows}
 use Rattle.clk_threads.proofs.Numbering.{threads_few}
+use Rattle.clk_threads.proofs.WatchRooms.{FewLifts}
 
 -- ---- the steps of events
 
@@ -207,14 +210,14 @@ pub record FitsIn (m : Plan) (thread : ℕ) (es : Listed Event) : Type 0 where
   pub below : All (λ e. NamesWordsBelow (cpu_count m) e.kind) es.items
   pub few : length es.items < 2 ^ 32
 
-pub fits_in : (p : Prepared) (ip : IsPrepared p.machine p) → p.machine.stable ≡ false → (thread : ℕ) (h : Hand) → thread < length (threads_of p.machine)
+pub fits_in : (p : Prepared) (ip : IsPrepared p.machine p) (thread : ℕ) (h : Hand) → thread < length (threads_of p.machine)
     → (l : HasLeft p ip.booted thread h) → FitsIn p.machine thread h.events
-fits_in p ip percpu thread h low l =
+fits_in p ip thread h low l =
     let m : Plan = p.machine in
-    let shows = left_shows p ip percpu thread h low l in
+    let shows = left_shows p ip thread h low l in
     let words = (thread_words m thread ip.limits low).few in
     let few = l.made.few in
-    record { script = (ran_whole p ip percpu thread h l).script; lower = shows.lower; below = shows.below; few = omega (arith, few, words) }
+    record { script = (ran_whole p ip thread h l).script; lower = shows.lower; below = shows.below; few = omega (arith, few, words) }
 
 -- ---- all threads, beside their scripts
 
@@ -257,9 +260,11 @@ cpus_below m limits =
 pub histories_built : (m : Plan) → IsBuilt (histories_below m) (no_steps m)
 histories_built m = record { none = refl; more = λ n. refl }
 
-pub may_fill : (p : Prepared) (ip : IsPrepared p.machine p) (threads : Listed (Listed Event)) (tickets : ℕ) → length threads.items ≡ length (threads_of p.machine)
-    → EachFrom (FitsIn p.machine) 0 threads.items → MayFill (whole_trace (begun_trace p) threads tickets)
-may_fill p ip threads tickets count fits =
+pub may_fill : (p : Prepared) (ip : IsPrepared p.machine p) (threads : Listed (Listed Event)) (watch : Option WatchTrace) (tickets : ℕ)
+    → length threads.items ≡ length (threads_of p.machine) → EachFrom (FitsIn p.machine) 0 threads.items
+    → FewLifts (cpu_count p.machine) (lifts_room p.machine) watch → IfSome watch (λ w. length (threads_of p.machine) ≤ w.thread)
+    → MayFill (whole_trace (begun_trace p) threads watch tickets)
+may_fill p ip threads watch tickets count fits lifts number =
     let m : Plan = p.machine in
     let n : ℕ = cpu_count m in
     let lists = ip.lists in
@@ -278,13 +283,20 @@ may_fill p ip threads tickets count fits =
         few = each_few m 0 threads.items fits;
         words = subst (λ (k : ℕ). All (AllBelow k) threads.items) (sym built) (each_below m 0 threads.items fits);
       };
+      watchdog = subst (λ (k : ℕ). IfSome watch (λ w. k ≤ w.thread)) (sym count) number;
+      lifts = subst (λ (k : ℕ). All (λ s. s.word < k) (lifts_by watch)) (sym built) lifts.below;
+      once = lifts.once;
       empty =
           All-from_get_or (λ (l : Listed HistoryStep). l.items ≡ []) p.lists.histories.items (no_steps m 0) (λ i low.
           ap (λ (l : Listed HistoryStep). l.items) (empty_at i (no_steps m 0) low));
       room = λ w d low.
           let room = ap (λ (l : Listed HistoryStep). l.room) (empty_at w d low) in
-          let few : length (steps_on w (all_steps 0 cpus threads.items)) ≤ steps_room m w = threads_room m w 0 (threads_of m) threads.items count (threads_at m) fits in
-          let steps = ap (λ (cs : List ℕ). length (lines_on w (all_steps 0 cs threads.items))) lists.cpu_of
-          ∙ length-map (steps_on w (all_steps 0 cpus threads.items)) line_of in
-          omega (arith, room, few, steps);
+          let few = threads_room m w 0 (threads_of m) threads.items count (threads_at m) fits in
+          let lifted = lifts.few w in
+          let made : List Placed = all_steps 0 cpus threads.items in
+          let cpus_are = ap (λ (cs : List ℕ). length (lines_on w (all_steps 0 cs threads.items ++ lift_steps watch))) lists.cpu_of in
+          let lines = length-map (steps_on w (made ++ lift_steps watch)) line_of in
+          let both = ap length (filter-append (λ (x : Placed). nat_eq x.step.word w) made (lift_steps watch)) in
+          let sum = length-append (steps_on w made) (steps_on w (lift_steps watch)) in
+          omega (arith, room, few, lifted, cpus_are, lines, both, sum);
     }

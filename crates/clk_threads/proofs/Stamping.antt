@@ -19,7 +19,8 @@ use Rattle.clk_machine.specs.Time.{reference_at, reference_rate, gtod_at}
 use Rattle.clk_machine.specs.Records.{record_zero, base_of}
 use Rattle.clk_machine.proofs.Travel.{time_rises}
 use Rattle.clk_latch.specs.Epoch.{Epoch, owner_of}
-use Rattle.clk_trace.specs.TicketOrder.{one, boot_blocks, up_blocks}
+use Rattle.clk_trace.specs.Checks.{one}
+use Rattle.clk_trace.specs.TicketOrder.{boot_blocks, up_blocks}
 use Rattle.clk_trace.specs.RightReadings.{IsRightStamp}
 use Rattle.clk_demote.specs.declared.events.StableStamp.{StableStamp}
 use Rattle.clk_threads.specs.Booting.{HasEpoch, MayStamp, HasStamped, gtod_offset_of, AreStamps, HasDrawnFirst}
@@ -131,7 +132,7 @@ stable_offset_is gtod offset raw f g h =
 
 -- ---- stamps
 
-stamp_draws : (tickets : Tickets) (bs : List Block) (n : ℕ) (m : Plan) (before after : Time) (epoch : Epoch) (s : StableStamp) → n + 2 ≤ most_tickets
+pub stamp_draws : (tickets : Tickets) (bs : List Block) (n : ℕ) (m : Plan) (before after : Time) (epoch : Epoch) (s : StableStamp) → n + 2 ≤ most_tickets
     → HasDrawn tickets bs n before → HasStamped m before after epoch s
     → HasDrawn tickets ((bs ++ one s.gtod_ticket ∷ []) ++ one s.raw.ticket ∷ []) ((n + 1) + 1) after
 stamp_draws tickets bs n m before after epoch s few h t =

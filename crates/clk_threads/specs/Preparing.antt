@@ -1,11 +1,11 @@
 -- The seats and the lists that a run begins with.
-use Rattle.std.specs.Prelude.{◌≡◌, ℕ, zero, suc, ◌+◌, ◌*◌, ◌≤◌, nat_lt, ℤ, pos, List, [], ◌∷◌, ◌++◌, length, map, slice_index_or, None, if◌then◌else◌}
+use Rattle.std.specs.Prelude.{◌≡◌, ℕ, zero, suc, ◌+◌, ◌*◌, ◌<◌, ◌≤◌, nat_lt, ℤ, pos, List, [], ◌∷◌, ◌++◌, length, map, slice_index_or, is_some, Bool, false, Option, Some, None, if◌then◌else◌}
 use Rattle.std.specs.List.{sum_by}
 use Rattle.clk_base.specs.Walk.{EachFrom}
 use Rattle.clk_num.specs.Listed.{Listed}
 use Rattle.clk_ticket.specs.Time.{Time, fresh, without, share_of}
 use Rattle.clk_words.specs.declared.kind.SeatKind.{SeatKind}
-use Rattle.clk_words.specs.declared.kind.SeatKind.TheVariants.{Owner, Reader}
+use Rattle.clk_words.specs.declared.kind.SeatKind.TheVariants.{Owner, Reader, Watch}
 use Rattle.clk_words.specs.declared.opening.Start.{Start}
 use Rattle.clk_words.specs.declared.view.View.{View}
 use Rattle.clk_words.specs.Held.{Place, Held}
@@ -14,27 +14,34 @@ use Rattle.clk_machine.specs.declared.script.Word.{Word}
 use Rattle.clk_machine.specs.declared.reading.Published.{Published}
 use Rattle.clk_machine.specs.Plan.{Plan, cpu_count, thread_at, threads_of}
 use Rattle.clk_machine.specs.Limits.{most_tickets, IsWithinLimits}
-use Rattle.clk_machine.specs.Tickets.{tickets_of, word_tickets}
+use Rattle.clk_machine.specs.Tickets.{tickets_of, word_tickets, watch_tickets}
 use Rattle.clk_machine.specs.Steps.{steps_for}
 use Rattle.clk_machine.specs.Records.{record_zero}
-use Rattle.clk_latch.specs.Epoch.{Epoch}
+use Rattle.clk_latch.specs.Epoch.{Epoch, reader_of}
 use Rattle.clk_latch.specs.Epoch.{Place as LatchPlace}
 use Rattle.clk_adjust.specs.declared.up.CpuUp.{CpuUp}
+use Rattle.clk_adjust.specs.declared.up.BroughtUp.{BroughtUp}
 use Rattle.clk_adjust.specs.BroughtUp.{IsBroughtUp}
 use Rattle.clk_trace.specs.declared.event.Event.{Event}
 use Rattle.clk_trace.specs.declared.trace.HistoryStep.{HistoryStep}
+use Rattle.clk_watch.specs.Watching.{checks_in, started}
 use Rattle.clk_demote.specs.declared.events.StableStamp.{StableStamp}
-use Rattle.clk_threads.specs.Booting.{opening_of, sched_offset_of, gtod_offset_of, AreStamps, HasDrawnFirst}
+use Rattle.clk_demote.specs.declared.events.Demotion.{Demotion}
+use Rattle.clk_trace.specs.Checks.{listed}
+use Rattle.clk_trace.specs.declared.trace.WatchTrace.{WatchTrace}
+use Rattle.clk_threads.specs.Booting.{opening_of, sched_offset_of, gtod_offset_of, AreStamps, FitsBoot, HasDrawnBefore, IsDemotedFor}
 use Rattle.clk_threads.specs.declared.opened.Opened.{Opened}
 use Rattle.clk_threads.specs.declared.latches.Latches.{Latches}
 use Rattle.clk_threads.specs.declared.lists.Lists.{Lists}
+use Rattle.clk_threads.specs.declared.booted.Booted.{Booted}
+use Rattle.clk_threads.specs.declared.prepared.Made.{Made}
 use Rattle.clk_threads.specs.declared.prepared.Prepared.{Prepared}
 
 -- ---- the clock words
 
 -- what they begin with
-abbrev pub start_of : Plan → List StableStamp → Start
-start_of m stamps = record { cpus = cpu_count m; tick = m.tick; opening = opening_of m stamps }
+abbrev pub start_of : Plan → List StableStamp → Option Demotion → Start
+start_of m stamps demotion = record { cpus = cpu_count m; tick = m.tick; opening = opening_of m stamps demotion }
 
 -- the kind of a thread's seat: a CPU's own thread is its owner, and any other reads there
 abbrev pub kind_on : Plan → ℕ → SeatKind
@@ -53,10 +60,21 @@ abbrev pub thread_seats : Plan → Place → ℕ → List Held
 thread_seats m p zero = []
 thread_seats m p (suc n) = thread_seats m p n ++ thread_seat m p n ∷ []
 
-pub record HasOpened (m : Plan) (stamps : List StableStamp) (o : Opened) : Type 0 where
-  pub start : o.words.start ≡ start_of m stamps
+-- the first seat after all threads got theirs, and after the watchdog did, where there is one; and the watchdog's seat
+abbrev pub gave_threads : Plan → Start → View
+gave_threads m start = gave m (length (threads_of m)) (first_view start)
+
+abbrev pub gave_all : Plan → Start → View
+gave_all m start = if is_some m.watchdog then giver_view Watch (gave_threads m start) else gave_threads m start
+
+abbrev pub watch_seat : Plan → Place → Held
+watch_seat m p = record { table = p.table; view = given_view Watch (gave_threads m p.start) }
+
+pub record HasOpened (m : Plan) (stamps : List StableStamp) (demotion : Option Demotion) (o : Opened) : Type 0 where
+  pub start : o.words.start ≡ start_of m stamps demotion
   pub seats : o.seats.items ≡ thread_seats m o.words (length (threads_of m))
-  pub first : o.first ≡ record { table = o.words.table; view = gave m (length (threads_of m)) (first_view o.words.start) }
+  pub watch : o.watch ≡ (if is_some m.watchdog then Some (watch_seat m o.words) else None)
+  pub first : o.first ≡ record { table = o.words.table; view = gave_all m o.words.start }
 
 -- ---- the latches
 
@@ -82,6 +100,25 @@ pub record HaveLatches (m : Plan) (first : Published) (n : ℕ) (l : Latches) : 
   pub count : length l.seats.items ≡ n
   pub each : EachFrom (IsLatchSeat m first l) 0 l.seats.items
 
+-- the watchdog's seat at each CPU's latch, if there is a watchdog: a reader's, split off the owner's
+pub record IsWatchLatch (first : Published) (l : Latches) (cpu : ℕ) (s : LatchPlace) : Type 0 where
+  pub latch : s.latch ≡ slice_index_or l.epochs.items cpu s.latch
+  pub epoch : s.epoch ≡ record { owner = false; left = 0; records = first ∷ []; begins = [] }
+
+-- each of these CPUs has its owner's seat, which is of its latch; and a seat was split off each owner's, in order
+abbrev pub AreOwners : ℕ → Latches → Type 0
+AreOwners cpus l = (cpu : ℕ) (s d : LatchPlace) → cpu < cpus → (slice_index_or l.seats.items cpu s).latch ≡ slice_index_or l.epochs.items cpu d.latch
+
+abbrev pub IsSplitOff : Latches → ℕ → LatchPlace → Type 0
+IsSplitOff l cpu s = (s.latch ≡ slice_index_or l.epochs.items cpu s.latch) × (s.epoch ≡ reader_of (slice_index_or l.seats.items cpu s).epoch)
+
+abbrev pub AreSplitOff : Latches → Type 0
+AreSplitOff l = EachFrom (IsSplitOff l) 0 l.watch.items
+
+pub record HaveWatchLatches (m : Plan) (first : Published) (l : Latches) : Type 0 where
+  pub count : length l.watch.items ≡ (if is_some m.watchdog then cpu_count m else 0)
+  pub each : EachFrom (IsWatchLatch first l) 0 l.watch.items
+
 -- ---- the tickets
 
 -- the tickets of a thread's script
@@ -92,15 +129,22 @@ thread_tickets t = sum_by tickets_of t.1
 abbrev pub time_seat : Time → ℕ × List Word → Time
 time_seat time t = fresh time.table (thread_tickets t) time.seen
 
+-- the seat that the watchdog gets
+abbrev pub watch_time : Plan → Time → Time
+watch_time m time = fresh time.table (watch_tickets m m.watchdog) time.seen
+
 -- ---- the lists
 
 -- no event of a thread, and room for the most that its script makes
 abbrev pub no_events : ℕ × List Word → Listed Event
 no_events t = record { items = []; room = 3 * length t.1 }
 
--- the most steps of all threads on a clock word
+-- the most steps of all threads on a clock word, and a lift by the watchdog, if there is one
+abbrev pub lifts_room : Plan → ℕ
+lifts_room m = if is_some m.watchdog then 1 else 0
+
 abbrev pub steps_room : Plan → ℕ → ℕ
-steps_room m w = sum_by (λ t. sum_by (steps_for w t.0) t.1) (threads_of m)
+steps_room m w = lifts_room m + sum_by (λ t. sum_by (steps_for w t.0) t.1) (threads_of m)
 
 -- no step of a word, and room for those; and so for each of the first n words, in order
 abbrev pub no_steps : Plan → ℕ → Listed HistoryStep
@@ -114,21 +158,52 @@ histories_below m (suc n) = histories_below m n ++ no_steps m n ∷ []
 abbrev pub adjusts_of : List CpuUp → List ℤ
 adjusts_of ups = pos 0 ∷ map (λ up. up.adjust) ups
 
-pub record AreLists (m : Plan) (ups : List CpuUp) (l : Lists) : Type 0 where
+-- what a watchdog fills: nothing yet, with room for an item of each check, and for a lift of each CPU. Its TSC source was lost
+-- at boot where a bring-up failed
+abbrev pub no_items : {A : Type 0} → ℕ → Listed A
+no_items n = record { items = []; room = n }
+
+abbrev pub empty_watch : Plan → Bool → WatchTrace
+empty_watch m lost = record {
+  thread = length (threads_of m);
+  pauses = no_items (checks_in m.watchdog);
+  watch = started m lost;
+  last_record = no_items (checks_in m.watchdog);
+  stamps = no_items (checks_in m.watchdog);
+  demotion = None;
+  demoted_in = 0;
+  lifts = no_items (cpu_count m);
+  currents = no_items (checks_in m.watchdog);
+}
+
+pub record AreLists (m : Plan) (up : BroughtUp) (l : Lists) : Type 0 where
   pub cpu_of : l.cpu_of.items ≡ map (λ t. t.0) (threads_of m)
   pub events : l.events.items ≡ map no_events (threads_of m)
   pub threads : l.threads ≡ record { items = []; room = length (threads_of m) }
   pub histories : l.histories.items ≡ histories_below m (cpu_count m)
-  pub adjusts : l.adjusts.items ≡ adjusts_of ups
+  pub adjusts : l.adjusts.items ≡ adjusts_of up.cpus.items
   pub latches : l.latches ≡ record { items = []; room = length (threads_of m) }
   pub workers : l.workers.items ≡ []
   pub workers_room : length (threads_of m) ≤ l.workers.room
+  pub watch : l.watch ≡ (if is_some m.watchdog then Some (empty_watch m up.failed) else None)
+
+-- ---- what takes memory
+
+-- the seats and the lists of a run after this boot and this demotion at boot, whose seat gave the tickets of the scripts away
+pub record IsMade (b : Booted) (up : BroughtUp) (demotion : Option Demotion) (made : Made) : Type 0 where
+  pub before : Time
+  pub booted : IsDemotedFor b.machine up demotion (record b { time = before })
+  pub lists : AreLists b.machine up made.lists
+  pub latches : HaveLatches b.machine b.epoch (length (threads_of b.machine)) made.latches
+  pub watch_latches : HaveWatchLatches b.machine b.epoch made.latches
+  pub opened : HasOpened b.machine b.stamps.items demotion made.opened
+  pub times : made.times.items ≡ map (time_seat before) (threads_of b.machine)
+  pub time_is : b.time ≡ without (word_tickets b.machine) before
 
 -- ---- all of it
 
 pub record IsPrepared (m : Plan) (p : Prepared) : Type 0 where
   pub limits : IsWithinLimits m
-  pub watchdog : m.watchdog ≡ None
   pub machine : p.machine ≡ m
   pub total : p.tickets.total ≡ most_tickets
   -- the boot
@@ -138,13 +213,16 @@ pub record IsPrepared (m : Plan) (p : Prepared) : Type 0 where
   pub gtod_offset : p.gtod_offset ≡ gtod_offset_of p.stamps.items
   -- the bring-up
   pub up : IsBroughtUp m None p.up
+  pub demotion : FitsBoot m p.stamps.items p.up.failed p.boot_demotion
   -- the seats
-  pub opened : HasOpened m p.stamps.items p.opened
+  pub opened : HasOpened m p.stamps.items p.boot_demotion p.opened
   pub latches : HaveLatches m (record_zero m) (length (threads_of m)) p.latches
+  pub watch_latches : HaveWatchLatches m (record_zero m) p.latches
   pub booted : Time
-  pub drawn : HasDrawnFirst p.tickets p.stamps.items p.up.cpus.items booted
+  pub drawn : HasDrawnBefore p.tickets p.stamps.items p.up.cpus.items p.boot_demotion booted
   pub times : p.times.items ≡ map (time_seat booted) (threads_of m)
-  pub time : p.time ≡ without (word_tickets m) booted
-  pub share : share_of p.time + sum_by share_of p.times.items ≡ p.tickets.total
+  pub watch_time : p.watch_time ≡ (if is_some m.watchdog then Some (watch_time m booted) else None)
+  pub time : p.time ≡ without (word_tickets m + watch_tickets m m.watchdog) booted
+  pub share : share_of p.time + sum_by share_of p.times.items + sum_by share_of (listed p.watch_time) ≡ p.tickets.total
   -- the memory
-  pub lists : AreLists m p.up.cpus.items p.lists
+  pub lists : AreLists m p.up p.lists

@@ -1,14 +1,26 @@
--- The workers of a run: how they are made of seats, and how they have run.
-use Rattle.std.specs.Prelude.{◌≡◌, ℕ, ◌<◌, ℤ, pos, List, [], ◌∷◌, ◌++◌, length, slice_index_or, Some}
+-- The workers of a run and its watcher: how they are made of seats, and how they have run.
+use Rattle.std.specs.Prelude.{◌≡◌, ℕ, ◌<◌, ℤ, pos, List, [], ◌∷◌, ◌++◌, length, slice_index_or, Bool, is_some, Option, Some, None}
+use Rattle.std.specs.List.{All}
 use Rattle.clk_base.specs.Walk.{EachFrom}
 use Rattle.clk_num.specs.Listed.{Listed}
+use Rattle.clk_words.specs.Held.{Held}
+use Rattle.clk_ticket.specs.Time.{Time}
+use Rattle.clk_latch.specs.Epoch.{Place as LatchPlace}
 use Rattle.clk_machine.specs.Plan.{Plan, thread_at}
+use Rattle.clk_demote.specs.declared.events.StableStamp.{StableStamp}
+use Rattle.clk_trace.specs.Checks.{listed}
+use Rattle.clk_trace.specs.Demoted.{boot_stamp}
+use Rattle.clk_trace.specs.declared.trace.WatchTrace.{WatchTrace}
 use Rattle.clk_trace.specs.declared.event.Event.{Event}
 use Rattle.clk_worker.specs.declared.shared.Shared.{Shared}
 use Rattle.clk_worker.specs.declared.own.Post.{Post}
 use Rattle.clk_worker.specs.declared.own.Own.{Own}
 use Rattle.clk_worker.specs.Making.{Hand, script_of, WentOn}
+use Rattle.clk_watcher.specs.Making.{RanAll}
+use Rattle.clk_watcher.specs.Making.{Hand as WatchHand, Begins as WatchBegins, WentOn as WatchWentOn}
+use Rattle.clk_watcher.specs.declared.parts.WatchParts.{WatchParts}
 use Rattle.clk_threads.specs.declared.workers.Seats.{Seats}
+use Rattle.clk_threads.specs.declared.workers.WatchSeats.{WatchSeats}
 
 -- there are seats and a list for each of n threads
 pub record HaveSeats (n : ℕ) (s : Seats) : Type 0 where
@@ -55,6 +67,32 @@ pub record AreOfSeats (m : Plan) (adjusts : List ℤ) (sched_offset : ℤ) (s : 
   pub count : length hands ≡ length s.seats.items
   pub each : EachFrom (IsOfSeats m adjusts sched_offset s) 0 hands
 
+-- ---- the watcher
+
+-- there is all of it or nothing
+pub record HaveWatchSeats (w : WatchSeats) : Type 0 where
+  pub time : is_some w.time ≡ is_some w.seat
+  pub trace : is_some w.trace ≡ is_some w.seat
+
+-- a watcher that has made no check, on these seats and lists; it goes by the last of these stamps
+pub record IsOfWatch (stamps : List StableStamp) (sched_offset gtod_offset : ℤ) (stable : Bool) (w : WatchSeats) (h : WatchHand) : Type 0 where
+  pub parts : WatchParts
+  pub trace : WatchTrace
+  pub seat : w.seat ≡ Some parts.seat
+  pub latches : parts.latch_seats ≡ w.latches
+  pub time : w.time ≡ Some parts.time
+  pub sched_offset_is : parts.sched_offset ≡ sched_offset
+  pub gtod_offset_is : parts.gtod_offset ≡ gtod_offset
+  pub last : (s : StableStamp) → parts.last ≡ boot_stamp gtod_offset s stamps
+  pub trace_is : w.trace ≡ Some trace
+  pub hand : h ≡ record { parts = Some parts; next = 0; stable = stable; trace = trace }
+  pub begins : WatchBegins parts trace stable h
+
+-- one where there are seats for it
+pub record IsWatcherOf (stamps : List StableStamp) (sched_offset gtod_offset : ℤ) (stable : Bool) (w : WatchSeats) (watcher : Option WatchHand) : Type 0 where
+  pub there : is_some watcher ≡ is_some w.seat
+  pub each : All (IsOfWatch stamps sched_offset gtod_offset stable w) (listed watcher)
+
 -- ---- the run
 
 -- the worker made all words that were left
@@ -65,3 +103,13 @@ pub record HasRun (s : Shared) (v w : Hand) : Type 0 where
 pub record HaveRun (s : Shared) (before after : List Hand) : Type 0 where
   pub count : length after ≡ length before
   pub each : (i : ℕ) (d : Hand) → i < length before → HasRun s (slice_index_or before i d) (slice_index_or after i d)
+
+-- the watcher made all checks that were left
+pub record HasWatchRun (s : Shared) (v w : WatchHand) : Type 0 where
+  pub went : WatchWentOn s v w
+  pub ran : RanAll s v w
+
+-- so did the one that there is
+abbrev pub WatcherRan : Shared → Option WatchHand → Option WatchHand → Type 0
+WatcherRan s None after = after ≡ None
+WatcherRan s (Some v) after = (w : WatchHand) × (after ≡ Some w) × HasWatchRun s v w

@@ -131,7 +131,7 @@ fn start(
 
 /// A stamp of CPU 0 by record 0, whose offset takes its monotonic time to its raw reading. After `__scd_stamp` of Linux
 /// 6.1's `kernel/sched/clock.c`.
-fn stamp(
+pub(crate) fn stamp(
     machine: &Machine,
     tickets: &TicketTable,
     time: &mut TimeSeat,

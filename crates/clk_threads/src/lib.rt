@@ -18,12 +18,15 @@
 #![tactic(auto)]
 
 mod booted;
+mod demoted;
+mod joins;
 mod latches;
 mod lists;
 mod opened;
 mod prepared;
 mod run;
 mod times;
+mod watchdog;
 mod workers;
 
 pub use booted::{Booted, boot};

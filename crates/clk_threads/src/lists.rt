@@ -1,13 +1,15 @@
 //! The lists that a run fills.
-ghost use Rattle.std.specs.Prelude.{◌≡◌, ◌+◌, ◌<◌, ◌≤◌, ◌*◌, IfOk, [], length, map};
+ghost use Rattle.std.specs.Prelude.{◌≡◌, ◌+◌, ◌<◌, ◌≤◌, ◌*◌, IfOk, [], length, map, is_some, Some, None, if◌then◌else◌};
 ghost use Rattle.clk_machine.specs.Plan.{threads_of, cpu_count};
-ghost use Rattle.clk_threads.specs.Preparing.{no_events, steps_room, histories_below, adjusts_of, AreLists};
+ghost use Rattle.clk_threads.specs.Preparing.{no_events, steps_room, histories_below, adjusts_of, empty_watch, AreLists};
 
+use crate::watchdog::{checks, has_watchdog};
 use clk_adjust::BroughtUp;
 use clk_latch::LatchSeat;
 use clk_machine::Machine;
 use clk_num::List;
-use clk_trace::{Event, HistoryStep};
+use clk_trace::{Event, HistoryStep, WatchTrace};
+use clk_watch::Watch;
 use clk_worker::Worker;
 use std::alloc::{AllocError, Global};
 
@@ -23,7 +25,7 @@ pub struct Lists {
     pub events: List<List<Event>>,
     /// Empty, with room for what each thread leaves.
     pub threads: List<List<Event>>,
-    /// The history of each clock word: empty, with room for the steps of all threads.
+    /// The history of each clock word: empty, with room for the steps of all threads, and for a lift by the watchdog.
     pub histories: List<List<HistoryStep>>,
     /// What is added to the counter of each CPU, in cycles: what its bring-up found.
     pub adjusts: List<i64>,
@@ -31,6 +33,8 @@ pub struct Lists {
     pub latches: List<LatchSeat>,
     /// Empty, with room for a worker of each thread.
     pub workers: List<Worker>,
+    /// What the watchdog fills, if there is one: lists with room for all its checks.
+    pub watch: Option<WatchTrace>,
 }
 
 /// The lists of a run of this machine after this bring-up. The error is want of memory.
@@ -40,7 +44,7 @@ pub(crate) fn make_lists(
     up: &BroughtUp,
 ) -> Result<Lists, AllocError>
     requires { length up.now.cpus.items + 1 ≡ cpu_count machine.now }
-    ensures { IfOk result (AreLists machine.now up.now.cpus.items) }
+    ensures { IfOk result (AreLists machine.now up.now) }
 {
     let threads = machine.threads() as usize;
     let cpus = machine.cpus() as usize;
@@ -58,7 +62,34 @@ pub(crate) fn make_lists(
         adjusts,
         latches: List::with_room(alloc, threads)?,
         workers: List::with_room(alloc, threads)?,
+        watch: list_watch(alloc, machine, up.failed)?,
     })
+}
+
+/// What the watchdog fills, if there is one. Its TSC source was lost at boot if `lost` says so.
+fn list_watch(
+    alloc: Global,
+    machine: &Machine,
+    lost: bool,
+) -> Result<Option<WatchTrace>, AllocError>
+    ensures { IfOk result (λ watch. watch ≡ (if is_some machine.now.watchdog then Some (empty_watch machine.now lost) else None)) }
+{
+    if !has_watchdog(machine) {
+        return Ok(None);
+    }
+    let _limits = machine.tickets_needed();
+    let checks = checks(machine);
+    Ok(Some(WatchTrace {
+        thread: machine.threads(),
+        pauses: List::with_room(alloc, checks)?,
+        watch: Watch::new(alloc, machine, lost)?,
+        last_record: List::with_room(alloc, checks)?,
+        stamps: List::with_room(alloc, checks)?,
+        demotion: None,
+        demoted_in: 0,
+        lifts: List::with_room(alloc, machine.cpus() as usize)?,
+        currents: List::with_room(alloc, checks)?,
+    }))
 }
 
 fn list_adjusts(up: &BroughtUp, mut adjusts: List<i64>) -> List<i64>
@@ -116,11 +147,11 @@ fn fill_histories(
     Ok(())
 }
 
-/// The most steps that all threads make on a clock word.
+/// The most steps that all threads make on a clock word, and a lift by the watchdog, if there is one.
 fn steps_on(machine: &Machine, word: u32) -> usize
     ensures { result ≡ steps_room machine.now word }
 {
-    let mut steps = 0;
+    let mut steps = usize::from(has_watchdog(machine));
     for thread in 0..machine.threads() {
         steps += machine.steps(thread, word) as usize;
     }

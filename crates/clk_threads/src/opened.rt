@@ -1,55 +1,85 @@
-//! The clock words of a run, and the seats of its threads there.
-ghost use Rattle.std.specs.Prelude.{◌≡◌, ◌<◌, ◌≤◌, [], IfOk, length, if◌then◌else◌};
+//! The clock words of a run, and the seats of its threads and of its watchdog there.
+ghost use Rattle.std.specs.Prelude.{◌≡◌, ◌<◌, ◌≤◌, [], IfOk, length, is_some, Option, Some, None, if◌then◌else◌};
 ghost use Rattle.clk_machine.specs.Plan.{cpu_count, threads_of};
 ghost use Rattle.clk_machine.specs.Limits.{IsWithinLimits};
 ghost use Rattle.clk_words.specs.Views.{first_view};
 ghost use Rattle.clk_words.specs.declared.opening.Mode.TheVariants.{Stable as StableMode, PerCpu as PerCpuMode};
-ghost use Rattle.clk_threads.specs.Booting.{AreStamps, gtod_offset_of, opening_of};
-ghost use Rattle.clk_threads.specs.Preparing.{kind_on, gave, thread_seats, HasOpened};
+ghost use Rattle.clk_threads.specs.Booting.{AreStamps, IsDemotedBy, gtod_offset_of, opening_of};
+ghost use Rattle.clk_threads.specs.Preparing.{kind_on, gave, gave_threads, gave_all, thread_seats, watch_seat, HasOpened};
 
-use clk_demote::StableStamp;
+use crate::watchdog::has_watchdog;
+use clk_demote::{Demotion, StableStamp};
 use clk_machine::Machine;
 use clk_num::List;
 use clk_words::{Mode, Opening, Seat, SeatKind, Words};
 use std::alloc::{AllocError, Global};
 
-/// The clock words of a run, the seat of each thread, in order, and the first seat, which gave them.
+/// The clock words of a run, and its seats there.
 #[derive(Drop)]
 pub struct Opened {
     pub words: Words,
+    /// The seat of each thread, in order.
     pub seats: List<Seat>,
+    /// The watchdog's, if there is a watchdog. In a stable start it alone may end the stable mode.
+    pub watch: Option<Seat>,
+    /// The first seat, which gave them.
     pub first: Seat,
 }
 
-/// Opens the clock words by the last stamp of the boot, and splits a seat off for each thread, in order. The error is want of
-/// memory.
+/// Opens the clock words by the last stamp of the boot, or by a demotion at boot, and splits a seat off for each thread, in
+/// order, and then one for the watchdog, if there is one. The error is want of memory.
 pub(crate) fn open_words(
     alloc: Global,
     machine: &Machine,
     stamps: &[StableStamp],
     gtod_offset: i64,
+    demotion: Option<Demotion>,
 ) -> Result<Opened, AllocError>
     requires stamps { AreStamps machine.now stamps.now }
     requires offset { gtod_offset ≡ gtod_offset_of stamps.now }
-    ensures { IfOk result (HasOpened machine.now stamps.now) }
+    requires demotion { IsDemotedBy machine.now stamps.now demotion }
+    ensures { IfOk result (HasOpened machine.now stamps.now demotion) }
 {
     let cpus = machine.cpus();
     let seats = List::with_room(alloc, machine.threads() as usize)?;
-    let opening = opening_by(machine, stamps, gtod_offset);
+    let opening = opening_by(machine, stamps, gtod_offset, demotion);
     let (words, mut first) = Words::new(alloc, cpus, machine.tick(), opening)?;
     let seats = split_seats(machine, &words, &mut first, seats);
+    let watch = split_watch(machine, &words, &mut first);
     Ok(Opened {
         words,
         seats,
+        watch,
         first,
     })
 }
 
-//// What the clock words begin with: the pair of the last stamp.
-pub(crate) fn opening_by(machine: &Machine, stamps: &[StableStamp], gtod_offset: i64) -> Opening
+/// What the clock words begin with: the pair of the last stamp, or that of a demotion at boot, by which the clock is per-CPU.
+pub(crate) fn opening_by(
+    machine: &Machine,
+    stamps: &[StableStamp],
+    gtod_offset: i64,
+    demotion: Option<Demotion>,
+) -> Opening
     requires stamps { AreStamps machine.now stamps.now }
     requires offset { gtod_offset ≡ gtod_offset_of stamps.now }
-    ensures { result ≡ opening_of machine.now stamps.now }
+    ensures { result ≡ opening_of machine.now stamps.now demotion }
+{
+    match demotion {
+        None => opening_at_stamp(machine, stamps, gtod_offset),
+        Some(demotion) => Opening {
+            mode: Mode::PerCpu,
+            offset: gtod_offset,
+            tick_gtod: demotion.gtod,
+            tick_raw: demotion.raw.ns,
+        },
+    }
+}
+
+fn opening_at_stamp(machine: &Machine, stamps: &[StableStamp], gtod_offset: i64) -> Opening
+    requires stamps { AreStamps machine.now stamps.now }
+    requires offset { gtod_offset ≡ gtod_offset_of stamps.now }
+    ensures { result ≡ opening_of machine.now stamps.now None }
 {
     let last = stamps[stamps.len() - 1];
     Opening {
@@ -61,7 +91,7 @@ pub(crate) fn opening_by(machine: &Machine, stamps: &[StableStamp], gtod_offset:
 }
 
 /// Whether the clock begins stable.
-fn first_mode(machine: &Machine) -> Mode
+pub(crate) fn first_mode(machine: &Machine) -> Mode
     ensures { result ≡ (if machine.now.stable then StableMode else PerCpuMode) }
 {
     if machine.starts_stable() {
@@ -83,10 +113,7 @@ fn split_seats(
     requires cpus { words.now.start.cpus ≡ cpu_count machine.now }
     requires seats { seats.items ≡ [] }
     requires room { length (threads_of machine.now) ≤ seats.room }
-    ensures first { first.new ≡ record {
-      table = words.now.table;
-      view = gave machine.now (length (threads_of machine.now)) (first_view words.now.start);
-    } }
+    ensures first { first.new ≡ record { table = words.now.table; view = gave_threads machine.now words.now.start } }
     ensures seats { result.items ≡ thread_seats machine.now words.now (length (threads_of machine.now)) }
 {
     for thread in 0..machine.threads() {
@@ -104,5 +131,20 @@ fn kind_of(machine: &Machine, thread: u32) -> SeatKind
         SeatKind::Owner(thread)
     } else {
         SeatKind::Reader(machine.cpu_of(thread))
+    }
+}
+
+/// Splits the watchdog's seat off the first seat, if there is a watchdog: it gets the number after those of the threads.
+fn split_watch(machine: &Machine, words: &Words, first: &mut Seat) -> Option<Seat>
+    requires limits { IsWithinLimits machine.now }
+    requires first { first.old ≡ record { table = words.now.table; view = gave_threads machine.now words.now.start } }
+    requires cpus { words.now.start.cpus ≡ cpu_count machine.now }
+    ensures first { first.new ≡ record { table = words.now.table; view = gave_all machine.now words.now.start } }
+    ensures seat { result ≡ (if is_some machine.now.watchdog then Some (watch_seat machine.now words.now) else None) }
+{
+    if has_watchdog(machine) {
+        Some(words.split(first, SeatKind::Watch))
+    } else {
+        None
     }
 }

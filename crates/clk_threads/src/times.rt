@@ -1,10 +1,12 @@
-//! The seats by which the threads of a run draw their tickets.
-ghost use Rattle.std.specs.Prelude.{◌≡◌, ◌≤◌, IfOk, [], length, map};
+//! The seats by which the threads of a run and its watchdog draw their tickets.
+ghost use Rattle.std.specs.Prelude.{◌≡◌, ◌≤◌, IfOk, [], length, map, is_some, Some, None, if◌then◌else◌};
 ghost use Rattle.clk_machine.specs.Plan.{threads_of};
-ghost use Rattle.clk_machine.specs.Tickets.{word_tickets};
+ghost use Rattle.clk_machine.specs.Limits.{IsWithinLimits};
+ghost use Rattle.clk_machine.specs.Tickets.{word_tickets, watch_tickets};
 ghost use Rattle.clk_ticket.specs.Time.{without};
-ghost use Rattle.clk_threads.specs.Preparing.{time_seat};
+ghost use Rattle.clk_threads.specs.Preparing.{time_seat, watch_time};
 
+use crate::watchdog::{has_watchdog, tickets_of_watch};
 use clk_machine::Machine;
 use clk_num::List;
 use clk_ticket::{TicketTable, TimeSeat};
@@ -44,4 +46,23 @@ fn split_times(
         times.push(tickets.split(time, machine.tickets(thread)));
     }
     times
+}
+
+/// Splits a seat off for the watchdog, if there is one, with the tickets of its checks.
+pub(crate) fn share_watch(
+    machine: &Machine,
+    tickets: &TicketTable,
+    time: &mut TimeSeat,
+) -> Option<TimeSeat>
+    requires limits { IsWithinLimits machine.now }
+    requires own { time.old.table ≡ tickets.now.table }
+    requires left { watch_tickets machine.now machine.now.watchdog ≤ time.old.left }
+    ensures seat { result ≡ (if is_some machine.now.watchdog then Some (watch_time machine.now time.old) else None) }
+    ensures time { time.new ≡ without (watch_tickets machine.now machine.now.watchdog) time.old }
+{
+    if has_watchdog(machine) {
+        Some(tickets.split(time, tickets_of_watch(machine)))
+    } else {
+        None
+    }
 }

@@ -1,13 +1,11 @@
 -- A source that holds a machine is not refused.
-use Rattle.std.proofs.Common.{◌≡◌, ◌⊎◌, ℕ, ◌+◌, ◌≤◌, true, cond, List, length, Option, Some, None, refl, inl, inr, arith, length-append, append-nil}
+use Rattle.std.proofs.Common.{◌≡◌, ◌⊎◌, ℕ, ◌+◌, ◌≤◌, List, length, Option, Some, None, refl, inl, inr, arith, length-append, append-nil}
 use Rattle.std.specs.Io.KnownBytes.{Consumes, IsAtEnd}
-use Rattle.clk_machine.specs.Plan.{Plan}
-use Rattle.clk_tool.specs.Built.{is_built}
 use Rattle.clk_tool.specs.Answers.{CameRefused, IsCause, HoldsMachine, IsOfFile, IsOfRun}
 use Rattle.clk_tool.specs.declared.status.Status.{Status}
 use Rattle.clk_tool.specs.declared.status.Status.TheVariants.{Done, Usage, ReadFault, Refused, WriteFault, Memory}
 use Rattle.clk_tool.specs.declared.status.Refusal.{Refusal}
-use Rattle.clk_tool.specs.declared.status.Refusal.TheVariants.{TooLong, NotToml, Key, Value, Word, Cpu, Tickets, Unbuilt}
+use Rattle.clk_tool.specs.declared.status.Refusal.TheVariants.{TooLong, NotToml, Key, Value, Word, Cpu, Tickets}
 
 -- all bytes that a source told came
 all_came : (held xs : List ℕ) (after : Option (List ℕ)) → Consumes (Some held) after xs → IsAtEnd after → held ≡ xs
@@ -20,15 +18,12 @@ no_more limit held xs (Some left) short came = λ long.
     omega (arith, whole, long, short)
 no_more limit held xs None short came = λ long. absurd came
 
-built_is_not_refused : (m : Plan) (r : Refusal) → is_built m ≡ true → ¬ (cond (is_built m) None (Some Unbuilt) ≡ Some r)
-built_is_not_refused m r built = rw built (λ e. absurd (cc e))
-
 came_refused : (limit : ℕ) (before after : Option (List ℕ)) (r : Refusal) → HoldsMachine limit before → ¬ CameRefused limit before after r
 came_refused limit before after r h = λ c.
     let came = rw h.told at c.came.consumed in
     let same = all_came h.bytes c.bytes after came c.came.end in
     let refused = rw (← same, h.machine) at c.refused in
-    built_is_not_refused h.plan r h.built refused
+    absurd (cc refused)
 
 pub holds_no_cause : (limit : ℕ) (before after : Option (List ℕ)) (r : Refusal) → HoldsMachine limit before → ¬ IsCause limit before after r
 holds_no_cause limit before after TooLong h = λ c. no_more limit h.bytes c.0 after h.short (rw h.told at c.1) c.2
@@ -38,7 +33,6 @@ holds_no_cause limit before after (Value place) h = came_refused limit before af
 holds_no_cause limit before after (Word place) h = came_refused limit before after (Word place) h
 holds_no_cause limit before after (Cpu place) h = came_refused limit before after (Cpu place) h
 holds_no_cause limit before after (Tickets needed) h = came_refused limit before after (Tickets needed) h
-holds_no_cause limit before after Unbuilt h = came_refused limit before after Unbuilt h
 
 pub done_or_memory : (s : Status) → IsOfRun s → ¬ (s ≡ WriteFault) → (s ≡ Done) ⊎ (s ≡ Memory)
 done_or_memory Done is no_fault = inl refl

@@ -1,4 +1,3 @@
 pub mod Accepting
-pub mod BuiltForms
 pub mod Numbers
 pub mod ReadingWhole

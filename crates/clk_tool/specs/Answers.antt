@@ -1,5 +1,5 @@
 -- What the answers of the program mean.
-use Rattle.std.specs.Prelude.{◌≡◌, ℕ, ◌≤◌, true, List, length, Option, Some, None, Result, Ok, Err, if◌then◌else◌}
+use Rattle.std.specs.Prelude.{◌≡◌, ℕ, ◌≤◌, List, length, Option, Some, None, Result, Ok, Err}
 use Rattle.clk_machine.specs.Plan.{Plan}
 use Rattle.clk_file.specs.Acceptance.{accepted}
 use Rattle.clk_file.specs.declared.error.FileError.{FileError}
@@ -7,7 +7,6 @@ use Rattle.clk_file.specs.declared.error.FileError.TheVariants as file
 use Rattle.clk_trace.specs.TraceText.{text}
 use Rattle.clk_trace.specs.LawfulTrace.{IsLawful}
 use Rattle.clk_trace.specs.declared.trace.Trace.{Trace}
-use Rattle.clk_tool.specs.Built.{is_built}
 use Rattle.clk_tool.specs.Rate.{rate_text}
 use Rattle.clk_tool.specs.Whole.{Came, CameMore}
 use Rattle.clk_tool.specs.declared.command.Command.{Command}
@@ -15,7 +14,7 @@ use Rattle.clk_tool.specs.declared.command.Command.TheVariants as command
 use Rattle.clk_tool.specs.declared.status.Status.{Status}
 use Rattle.clk_tool.specs.declared.status.Status.TheVariants.{Done, Usage, ReadFault, Refused, WriteFault, Memory}
 use Rattle.clk_tool.specs.declared.status.Refusal.{Refusal}
-use Rattle.clk_tool.specs.declared.status.Refusal.TheVariants.{TooLong, NotToml, Key, Value, Word, Cpu, Tickets, Unbuilt}
+use Rattle.clk_tool.specs.declared.status.Refusal.TheVariants.{TooLong, NotToml, Key, Value, Word, Cpu, Tickets}
 
 -- exit statuses, in the order of the answers
 abbrev pub exit_code_of : Status → ℕ
@@ -26,12 +25,11 @@ exit_code_of (Refused r) = 3
 exit_code_of WriteFault = 4
 exit_code_of Memory = 5
 
--- the bytes of the file came to their end, and are this machine, whose every form is built
+-- the bytes of the file came to their end, and are this machine
 pub record CameMachine (limit : ℕ) (before after : Option (List ℕ)) (m : Plan) : Type 0 where
   pub bytes : List ℕ
   pub came : Came limit before after bytes
   pub machine : accepted bytes ≡ Ok m
-  pub built : is_built m ≡ true
 
 -- the text of a lawful trace of the machine was written so
 pub record Traced (m : Plan) (Written : List ℕ → Type 0) : Type 0 where
@@ -57,13 +55,9 @@ abbrev pub IsRate : Option Command → Type 0
 IsRate (Some (command.Rate hz bits)) = Unit {0}
 IsRate _ = ⊥
 
--- the refusal of a file that came whole, by what its bytes are: the first failing test, and last of all a form that is
--- not built
-abbrev pub refusal_of_machine : Plan → Option Refusal
-refusal_of_machine m = if is_built m then None else Some Unbuilt
-
+-- the refusal of a file that came whole, by what its bytes are: the first failing test
 abbrev pub refusal_of : Result Plan FileError → Option Refusal
-refusal_of (Ok m) = refusal_of_machine m
+refusal_of (Ok m) = None
 refusal_of (Err file.NotToml) = Some NotToml
 refusal_of (Err (file.Key place)) = Some (Key place)
 refusal_of (Err (file.Value place)) = Some (Value place)
@@ -93,14 +87,13 @@ abbrev pub IsCause : ℕ → Option (List ℕ) → Option (List ℕ) → Refusal
 IsCause limit before after TooLong = CameMore limit before after
 IsCause limit before after refusal = CameRefused limit before after refusal
 
--- the source tells its bytes, they are few enough, and they are a machine whose every form is built
+-- the source tells its bytes, they are few enough, and they are a machine
 pub record HoldsMachine (limit : ℕ) (rest : Option (List ℕ)) : Type 0 where
   pub bytes : List ℕ
   pub told : rest ≡ Some bytes
   pub short : length bytes ≤ limit
   pub plan : Plan
   pub machine : accepted bytes ≡ Ok plan
-  pub built : is_built plan ≡ true
 
 -- answers under which nothing was written
 abbrev pub IsSilent : Status → Type 0

@@ -1,5 +1,4 @@
 pub mod Answers
-pub mod Built
 pub mod Commands
 pub mod Ends
 pub mod Rate

@@ -117,6 +117,22 @@ fn an_adjusted_counter_is_read(rt: HostRuntime) -> Result<(), Fail> {
     Ok(())
 }
 
+// CPU 1 is 300 cycles ahead without the register: the clock, which starts stable, is demoted before the scripts.
+const DEMOTED: &str =
+    "failed\ncpu 1 0 failed\ndemote 57 570 58 1392 0 580 10 580 0\nword 0 580\nword 1 580\nthread 0 0\nthread 1 1\nhistory 0 0\nhistory 1 0\nend 59\n";
+
+#[test]
+fn a_demotion_at_boot(rt: HostRuntime) -> Result<(), Fail> {
+    let gate = Barrier::new();
+    let text =
+        "version = 1\ncpus = 2\nstep = 10\nnominal_khz = 2400000\nstable = true\nreference.khz = 1000000\n[bringup]\nadjust = false\ntimeout_us = 1000000\nturns = 16\n[[cpu]]\n[[cpu]]\noffset = 300\n";
+    let (status, written) = run(&rt, rt.alloc(), text, &gate)?;
+    assert_eq!(rt; status, Status::Done);
+    assert_eq!(rt; gate.missed.load(Ordering::SeqCst), 0);
+    assert!(rt; written.as_slice().ends_with(DEMOTED.as_bytes()));
+    Ok(())
+}
+
 // A failed bring-up of a clock that starts per CPU demotes nothing, and the CPUs after it are skipped.
 #[test]
 fn a_failed_bring_up(rt: HostRuntime) -> Result<(), Fail> {

@@ -10,14 +10,12 @@
 //!   [`StdSink`]) what a file or a terminal holds is known to no contract.
 //! - A machine is booted, prepared and run by `clk_threads`, each script on a thread of its own, and its CPUs are brought up
 //!   by `clk_adjust` in between; the trace's last number, its readings and its histories are what the shared tables answered.
-//!   Forms that are not built yet are refused last ([`Refusal::Unbuilt`]).
 //!
 //! [`clock_tool`] alone waits, for the two sides of each warp run of a bring-up, and owes no return. All other calls return.
 #![tactic(auto)]
 
 #[cfg(test)]
 mod bring_up_tests;
-mod built;
 mod command;
 #[cfg(test)]
 mod end_tests;
@@ -31,12 +29,16 @@ mod rate_tests;
 mod row_tests;
 mod run;
 mod source;
+#[cfg(test)]
+mod stable_tests;
 mod standard;
 mod status;
 mod sure;
 #[cfg(test)]
 mod thread_tests;
 mod tool;
+#[cfg(test)]
+mod watch_tests;
 mod whole;
 
 pub use memory::{MemSink, MemSource};

@@ -210,25 +210,6 @@ fn counters_are_those_of_the_file(rt: HostRuntime) -> Result<(), Fail> {
     Ok(())
 }
 
-const UNBUILT: [&str; 3] = [
-    "cpus = 1\nstable = false\ncpu = [{}]\nwatchdog = { checks = 0, pause = 1, skew = 0, retries = 0 }",
-    "cpus = 1\nstable = false\ncpu = [{}]\nsource = [{ rating = 1, margin = 0, nominal_khz = 1000 }]",
-    "cpus = 1\nstable = true\ncpu = [{}]",
-];
-
-#[test]
-fn forms_that_are_not_built_are_refused_last(rt: HostRuntime) -> Result<(), Fail> {
-    for form in UNBUILT {
-        for version in ["1", "2"] {
-            let last = line_of(&rt, rt.alloc(), version, "", form)?;
-            assert_eq!(rt; last.as_str(), "refused 7");
-            let first = line_of(&rt, rt.alloc(), version, "tick = 0\n", form)?;
-            assert_eq!(rt; first.as_str(), "refused 3 tick");
-        }
-    }
-    Ok(())
-}
-
 // The version, the step, the tick and the script of a file at a limit, and the line that the program prints or the end of
 // the trace.
 const LIMITS: [(&str, &str, &str, &str, &str); 13] = [
@@ -521,7 +502,7 @@ fn a_fault_of_the_sink_leaves_a_beginning(rt: HostRuntime) -> Result<(), Fail> {
 }
 
 // Answers, their exit statuses, and the lines that the program prints.
-const ANSWERS: [(Status, u8, &str); 9] = [
+const ANSWERS: [(Status, u8, &str); 8] = [
     (Status::Done, 0, ""),
     (Status::Usage, 1, "usage: clock_tool run | rate HZ BITS"),
     (Status::ReadFault, 2, "read fault"),
@@ -532,7 +513,6 @@ const ANSWERS: [(Status, u8, &str); 9] = [
         3,
         "refused 6 16777217",
     ),
-    (Status::Refused(Refusal::Unbuilt), 3, "refused 7"),
     (Status::WriteFault, 4, "write fault"),
     (Status::Memory, 5, "out of memory"),
 ];

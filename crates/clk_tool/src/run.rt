@@ -1,14 +1,13 @@
 //! The command `run` by its parts: what is read before the CPUs are brought up, and what is run and written after it.
-ghost use Rattle.std.specs.Prelude.{◌≡◌, ◌⊎◌, ◌≤◌, true, None, IfOk, IfErr};
+ghost use Rattle.std.specs.Prelude.{◌≡◌, ◌⊎◌, ◌≤◌, None, IfOk, IfErr, length};
 ghost use Rattle.clk_base.specs.Causes.{Rose, Grew, GrewByPrefix};
 ghost use Rattle.clk_adjust.specs.BroughtUp.{IsBroughtUp};
 ghost use Rattle.clk_trace.specs.LawfulTrace.{IsLawful};
+ghost use Rattle.clk_trace.specs.WatchText.{MayWriteWatch};
 ghost use Rattle.clk_threads.specs.Booting.{IsBooted, IsBootedFor};
 ghost use Rattle.clk_threads.specs.Finishing.{ShowsHistory};
-ghost use Rattle.clk_tool.specs.Built.{is_built};
 ghost use Rattle.clk_tool.specs.Answers.{CameMachine, Traced, status_of, IsCause, HoldsMachine, IsOfFile, IsOfRun};
 
-use crate::built::is_built;
 use crate::source::Source;
 use crate::status::{Refusal, Status};
 use crate::whole::{LIMIT, ReadRefusal, read_whole};
@@ -60,8 +59,7 @@ fn machine_of<S: Source>(alloc: Global, source: &mut S) -> Result<Machine, Statu
         Err(ReadRefusal::Memory) => return Err(Status::Memory),
     };
     match read_machine(alloc, bytes.as_slice()) {
-        Ok(machine) if is_built(&machine) => Ok(machine),
-        Ok(_) => Err(Status::Refused(Refusal::Unbuilt)),
+        Ok(machine) => Ok(machine),
         Err(error) => Err(status_of(error)),
     }
 }
@@ -92,7 +90,6 @@ pub fn write_run<R: Threads + Sync, K: Sink, G: Gate + Sync>(
     sink: &mut K,
     gate: &G,
 ) -> Status
-    requires built { is_built booted.machine ≡ true }
     requires booted { IsBootedFor booted.machine up booted }
     requires up { IsBroughtUp booted.machine None up }
     ensures done { result ≡ Status.Done →
@@ -127,11 +124,12 @@ fn run_machine<R: Threads + Sync, G: Gate + Sync>(
     up: BroughtUp,
     gate: &G,
 ) -> Result<Finished, AllocError>
-    requires built { is_built booted.machine ≡ true }
     requires booted { IsBootedFor booted.machine up booted }
     requires up { IsBroughtUp booted.machine None up }
     ensures lawful { IfOk result (λ finished. IsLawful booted.machine finished.trace) }
     ensures closed { IfOk result (λ finished. ShowsHistory finished.closed.history finished.trace) }
+    ensures writable { IfOk result (λ finished.
+        MayWriteWatch (length finished.trace.histories.items) finished.trace.watch) }
 {
     let prepared = prepare(alloc, booted, up)?;
     Ok(run_cpus(rt, prepared, gate))

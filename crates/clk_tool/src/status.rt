@@ -23,7 +23,7 @@ pub enum Status {
     Memory,
 }
 
-/// Why a machine file is refused. Codes are 0 to 7 in this order.
+/// Why a machine file is refused. Codes are 0 to 6 in this order.
 #[derive(Clone, Copy, PartialEq, Eq, Debug)]
 pub enum Refusal {
     /// It is longer than 1,048,576 bytes.
@@ -40,8 +40,6 @@ pub enum Refusal {
     Cpu(Place),
     /// The run needs so many tickets, more than 2^24, or in version 2 more than 2^26.
     Tickets { needed: u64 },
-    /// It has a form that is not built yet.
-    Unbuilt,
 }
 
 impl Status {
@@ -85,7 +83,6 @@ impl fmt::Display for Refusal {
             Refusal::Word(place) => write!(f, "4 {}", Path(*place)),
             Refusal::Cpu(place) => write!(f, "5 {}", Path(*place)),
             Refusal::Tickets { needed } => write!(f, "6 {needed}"),
-            Refusal::Unbuilt => write!(f, "7"),
         }
     }
 }

@@ -59,19 +59,24 @@ fn sixty_four_cpus_without_words(rt: HostRuntime) -> Result<(), Fail> {
     Ok(())
 }
 
-// A gate at which each of two threads waits for the other.
+// A gate at which each thread raises its flag and waits for the flags of all others.
 #[derive(Drop)]
-struct Meeting {
-    came: [AtomicU64; 2],
-    missed: AtomicU64,
+pub(crate) struct Meeting<'a> {
+    pub(crate) came: &'a [AtomicU64],
+    pub(crate) missed: AtomicU64,
 }
 
-impl Gate for Meeting {
+impl Gate for Meeting<'_> {
     fn pass(&self, thread: u32, _op: u32, _last: i64) {
-        let (mine, other) = if thread == 0 { (0, 1) } else { (1, 0) };
-        self.came[mine].store(1, Ordering::SeqCst);
+        if let Some(mine) = self.came.get(thread as usize) {
+            mine.store(1, Ordering::SeqCst);
+        }
         for _ in 0..LOOKS {
-            if self.came[other].load(Ordering::SeqCst) == 1 {
+            if self
+                .came
+                .iter()
+                .all(|flag| flag.load(Ordering::SeqCst) == 1)
+            {
                 return;
             }
             spin_loop();
@@ -82,8 +87,9 @@ impl Gate for Meeting {
 
 #[test]
 fn two_cpus_meet(rt: HostRuntime) -> Result<(), Fail> {
+    let came = [AtomicU64::new(0), AtomicU64::new(0)];
     let gate = Meeting {
-        came: [AtomicU64::new(0), AtomicU64::new(0)],
+        came: &came,
         missed: AtomicU64::new(0),
     };
     let text = two_cpus(rt.alloc(), "", ("\"local\"", "\"local\""))?;

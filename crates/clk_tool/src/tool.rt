@@ -1,8 +1,7 @@
 //! The top call: from the words of a command line to an answer.
-ghost use Rattle.std.specs.Prelude.{◌≡◌, ◌↔◌, ◌⊎◌, ◌≤◌, true, None};
+ghost use Rattle.std.specs.Prelude.{◌≡◌, ◌↔◌, ◌⊎◌, ◌≤◌, None};
 ghost use Rattle.clk_base.specs.Causes.{Rose, Grew, GrewByPrefix};
 ghost use Rattle.clk_threads.specs.Booting.{IsBooted};
-ghost use Rattle.clk_tool.specs.Built.{is_built};
 ghost use Rattle.clk_tool.specs.Commands.{command_asked};
 ghost use Rattle.clk_tool.specs.Answers.{Answered, IsRate, Traced, IsCause, HoldsMachine, IsSilent, IsOfRun};
 
@@ -86,7 +85,6 @@ fn run_booted<R: Wait + Threads + Sync, K: Sink, G: Gate + Sync>(
     sink: &mut K,
     gate: &G,
 ) -> Status
-    requires built { is_built booted.machine ≡ true }
     requires booted { IsBooted booted.machine booted }
     ensures done { result ≡ Status.Done →
         Traced booted.machine (Grew (K.written sink.old) (K.written sink.new)) }

@@ -1,15 +1,18 @@
--- No more steps than events.
-use Rattle.std.proofs.Common.{ℕ, ◌+◌, ◌*◌, ◌≤◌, not, nat_eq, List, [], ◌∷◌, length, length-append, refl, arith}
+-- No more steps than events and lifts.
+use Rattle.std.proofs.Common.{◌≡◌, ℕ, ◌+◌, ◌*◌, ◌≤◌, not, nat_eq, List, [], ◌∷◌, length, length-append, Option, Some, None, refl, ap, ◌∙◌, arith}
 use Rattle.std.specs.List.{All}
 use Rattle.std.proofs.lemmas.List.Elements.{All-head, All-tail}
 use Rattle.std.proofs.lemmas.List.{length-map}
 use Rattle.std.proofs.lemmas.List.Filters.{length-filter_both}
 use Rattle.clk_num.specs.Listed.{Listed}
 use Rattle.clk_trace.specs.Filling.{lines_on}
-use Rattle.clk_trace.specs.WordHistory.{Placed, steps_of_kind, steps_from, all_steps, steps_on, line_of}
+use Rattle.clk_trace.specs.Standing.{lifts_by}
+use Rattle.clk_trace.specs.WordHistory.{Placed, steps_of_kind, steps_from, all_steps, placed_lift, lift_steps, steps_of, steps_on, line_of}
 use Rattle.clk_trace.specs.declared.event.Event.{Event}
 use Rattle.clk_trace.specs.declared.event.EventKind.{EventKind}
 use Rattle.clk_trace.specs.declared.event.EventKind.TheVariants.{Stable, Local, Couple, Stamp, Nothing, Update, Pause}
+use Rattle.clk_trace.specs.declared.trace.WatchTrace.{WatchTrace}
+use Rattle.clk_trace.specs.declared.trace.Trace.{Trace}
 
 one_kind : (thread cpu call part : ℕ) (kind : EventKind) → length (steps_of_kind thread cpu call part kind) ≤ 1
 one_kind thread cpu call part (Stable raw value) = omega arith
@@ -46,3 +49,13 @@ few_in_all k n (cpu ∷ cpus) (es ∷ threads) few =
     let others = few_in_all k (n + 1) cpus threads (All-tail Few es threads few) in
     let both = length-append (steps_from n cpu 0 es.items) (all_steps (n + 1) cpus threads) in
     grind (arith, here, first, others, both)
+
+-- the steps of all threads, and one for each lift
+lift_count : (o : Option WatchTrace) → length (lift_steps o) ≡ length (lifts_by o)
+lift_count None = refl
+lift_count (Some w) = length-map w.lifts.items (placed_lift w.thread)
+
+pub step_count : (t : Trace) → length (steps_of t) ≡ length (all_steps 0 t.cpu_of.items t.threads.items) + length (lifts_by t.watch)
+step_count t =
+    let steps : List Placed = all_steps 0 t.cpu_of.items t.threads.items in
+    length-append steps (lift_steps t.watch) ∙ ap (λ (n : ℕ). length steps + n) (lift_count t.watch)

@@ -8,7 +8,8 @@ use Rattle.std.proofs.lemmas.List.Elements.{filter-append}
 use Rattle.clk_base.specs.Walk.{EachFrom}
 use Rattle.clk_num.specs.Listed.{Listed}
 use Rattle.clk_trace.specs.Filling.{lines_on, Gained, HasRoomFor, Sorts, AreSorted}
-use Rattle.clk_trace.specs.WordHistory.{Placed, steps_of_kind, steps_from, all_steps, steps_of, steps_on, line_of, IsHistoryOf}
+use Rattle.clk_trace.specs.WordHistory.{Placed, steps_of_kind, steps_from, all_steps, placed_lift, lift_steps, steps_of, steps_on, line_of, IsHistoryOf}
+use Rattle.clk_words.specs.declared.step.Step.{Step}
 use Rattle.clk_trace.specs.declared.trace.Trace.{Trace}
 use Rattle.clk_trace.specs.declared.event.Event.{Event}
 use Rattle.clk_trace.specs.declared.trace.HistoryStep.{HistoryStep}
@@ -119,6 +120,25 @@ threads_next cpus threads i c d here low w =
     ∙ ap (λ (xs : List (Listed Event)). lines_on w (all_steps i (cpu ∷ drop (suc i) cpus) xs)) (drop-cons threads i d low)
     ∙ lines_on-append w (steps_from i cpu 0 es.items) (all_steps (i + 1) (drop (suc i) cpus) (drop (suc i) threads))
     ∙ ap (λ (n : ℕ). lines_on w (steps_from i cpu 0 es.items) ++ lines_on w (all_steps (i + 1) (drop n cpus) (drop n threads))) (sym (add-one i))
+
+-- the next lift
+pub lifts_next : (thread : ℕ) (lifts : List Step) (i : ℕ) (d : Step) → i < length lifts → (w : ℕ)
+    → lines_on w (map (placed_lift thread) (drop i lifts))
+    ≡ lines_on w (placed_lift thread (get_or lifts i d) ∷ []) ++ lines_on w (map (placed_lift thread) (drop (i + 1) lifts))
+lifts_next thread lifts i d low w =
+    let p : Placed = placed_lift thread (get_or lifts i d) in
+    ap (λ (xs : List Step). lines_on w (map (placed_lift thread) xs)) (drop-cons lifts i d low)
+    ∙ lines_on-append w (p ∷ []) (map (placed_lift thread) (drop (suc i) lifts))
+    ∙ ap (λ (n : ℕ). lines_on w (p ∷ []) ++ lines_on w (map (placed_lift thread) (drop n lifts))) (sym (add-one i))
+
+-- the steps of the threads, and then the lifts
+pub gained_steps : (t : Trace) (a b c : List (Listed HistoryStep)) → Gained a b (λ w. lines_on w (all_steps 0 t.cpu_of.items t.threads.items))
+    → Gained b c (λ w. lines_on w (lift_steps t.watch)) → Gained a c (λ w. lines_on w (steps_of t))
+gained_steps t a b c p q =
+    let steps : List Placed = all_steps 0 t.cpu_of.items t.threads.items in
+    let lifts : List Placed = lift_steps t.watch in
+    gained_same a c (λ w. lines_on w steps ++ lines_on w lifts) (λ w. lines_on w (steps_of t)) (λ w. sym (lines_on-append w steps lifts))
+    (gained_more a b c (λ w. lines_on w steps) (λ w. lines_on w lifts) p q)
 
 -- what holds at each place holds of each item and its number
 pub each_from : {A : Type 0} (P : ℕ → A → Type 0) (n : ℕ) (xs : List A) → ((k : ℕ) (d : A) → k < length xs → P (n + k) (get_or xs k d)) → EachFrom P n xs

@@ -1,6 +1,13 @@
 pub mod Taking
 pub mod Lining
 pub mod Texts
+pub mod WatchTexts
+pub mod WholeText
+pub mod Passing
+pub mod Naming
 pub mod Gaining
 pub mod Sorting
 pub mod Few
+pub mod CountingBlocks
+pub mod CountingWords
+pub mod CountingLaws

@@ -1,7 +1,9 @@
 -- How the histories of a trace are filled: lists of which each gains the lines on its word, and is then sorted.
-use Rattle.std.specs.Prelude.{◌≡◌, ℕ, ◌+◌, ◌^◌, ◌<◌, ◌≤◌, ℤ, List, [], ◌++◌, length, map, slice_index_or, All, IsPermutation, IsSorted}
+use Rattle.std.specs.Prelude.{◌≡◌, ℕ, ◌+◌, ◌^◌, ◌<◌, ◌≤◌, nat_eq, ℤ, List, [], ◌++◌, length, map, slice_index_or, All, IsPermutation, IsSorted, IfSome}
+use Rattle.std.specs.List.{IsDistinct}
 use Rattle.clk_base.specs.Walk.{EachFrom}
 use Rattle.clk_num.specs.Listed.{Listed}
+use Rattle.clk_trace.specs.Standing.{lifts_by}
 use Rattle.clk_trace.specs.WordHistory.{Placed, steps_of, steps_on, line_of, history_cmp, IsHistoryOf}
 use Rattle.clk_trace.specs.declared.event.Event.{Event}
 use Rattle.clk_trace.specs.declared.event.EventKind.{EventKind}
@@ -46,11 +48,14 @@ pub record AreSorted (opening : ℤ) (before after : List (Listed HistoryStep)) 
   pub count : length after ≡ length before
   pub each : (w : ℕ) (d : Listed HistoryStep) → w < length before → Sorts opening (slice_index_or before w d) (slice_index_or after w d)
 
--- there is an empty list for each word, with room for its steps
+-- there is an empty list for each word, with room for its steps; the watchdog is none of the threads, and it lifts no word twice
 pub record MayFill (t : Trace) : Type 0 where
   pub count : length t.cpu_of.items ≡ length t.threads.items
   pub few : length t.threads.items < 2 ^ 32
   pub words : HasWordsBelow (length t.histories.items) t.cpu_of.items t.threads.items
+  pub watchdog : IfSome t.watch (λ w. length t.threads.items ≤ w.thread)
+  pub lifts : All (λ s. s.word < length t.histories.items) (lifts_by t.watch)
+  pub once : IsDistinct nat_eq (map (λ s. s.word) (lifts_by t.watch))
   pub empty : All (λ l. l.items ≡ []) t.histories.items
   pub room : HasRoomFor t.histories.items (λ w. lines_on w (steps_of t))
 

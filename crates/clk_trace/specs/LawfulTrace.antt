@@ -1,6 +1,6 @@
--- When a trace is lawful for a machine. It speaks of printed fields alone, and of any number of CPUs and readers, in either
--- start, with or without a bring-up. What is not built has no place here yet: a watchdog, and a demotion.
-use Rattle.std.specs.Prelude.{◌≡◌, ℕ, ◌+◌, pos, ◌+ℤ◌, ◌-ℤ◌, false, [], length, map, flat_map, All, IsPermutation, None, if◌then◌else◌}
+-- When a trace is lawful for a machine. It speaks of printed fields, and of any number of CPUs and readers, in either start, with
+-- or without a bring-up and a watchdog, and of the demotions that they call for.
+use Rattle.std.specs.Prelude.{◌≡◌, ◌+◌, ℤ, pos, ◌+ℤ◌, ◌-ℤ◌, false, [], length, map, flat_map, All, IsPermutation, is_some, Option, Some, None, if◌then◌else◌}
 use Rattle.std.specs.List.{AllZip}
 use Rattle.clk_base.specs.Walk.{Along, EachFrom}
 use Rattle.clk_num.specs.Wrapping.{wrap}
@@ -11,12 +11,17 @@ use Rattle.clk_trace.specs.Threads.{owners, readers, reader_cpus}
 use Rattle.clk_trace.specs.Lines.{step_line}
 use Rattle.clk_trace.specs.ScriptEvents.{AreEventsOf}
 use Rattle.clk_trace.specs.Couples.{CouplesLower}
-use Rattle.clk_trace.specs.Modes.{is_stable, modes_of, IsOfMode, turned_after}
+use Rattle.clk_trace.specs.Standing.{is_stable, begins_stable, standing_offset}
+use Rattle.clk_trace.specs.Modes.{modes_of, IsOfMode, turned_after}
 use Rattle.clk_trace.specs.RightReadings.{HasRightReadings}
 use Rattle.clk_trace.specs.Stamps.{no_pair, first_pair, last_pair, stamp_zero, stamps_of, NamesPair, pair_after, first_numbers, NamesStamps, numbers_after}
 use Rattle.clk_trace.specs.WordHistory.{steps_of, steps_on, line_of}
 use Rattle.clk_trace.specs.LegalHistory.{ReachesTarget, NamesSource, IsLegalHistory}
 use Rattle.clk_trace.specs.SeenBefore.{base_of, NeverFalls}
+use Rattle.clk_trace.specs.Watchdog.{AreChecks, AreCalledFor}
+use Rattle.clk_trace.specs.Demoted.{HasDemotions}
+use Rattle.clk_demote.specs.declared.events.Demotion.{Demotion}
+use Rattle.clk_trace.specs.declared.trace.WatchTrace.{WatchTrace}
 use Rattle.clk_trace.specs.declared.trace.Trace.{Trace}
 
 -- the machine's threads, each with the events of its script; a coupling steps on the lower word
@@ -24,6 +29,11 @@ pub record FollowsScripts (m : Plan) (t : Trace) : Type 0 where
   pub cpus : t.cpu_of.items ≡ map (λ s. s.0) (threads_of m)
   pub events : AllZip (λ s es. AreEventsOf s.0 0 s.1 es.items) (threads_of m) t.threads.items
   pub couples : AllZip (λ cpu es. All (λ e. CouplesLower cpu e.kind) es.items) t.cpu_of.items t.threads.items
+
+-- where the words open: by the last stamp of the boot, or as a demotion at boot says
+abbrev pub opening_at : ℤ → Option Demotion → ℤ
+opening_at opening None = opening
+opening_at opening (Some d) = d.opening
 
 -- record 0, the boot stamps, the offsets and the openings are as the boot makes them; sums wrap
 pub record HasOpening (m : Plan) (t : Trace) : Type 0 where
@@ -34,7 +44,7 @@ pub record HasOpening (m : Plan) (t : Trace) : Type 0 where
   pub gtod_offset : t.gtod_offset ≡ wrap ((first_pair no_pair t.boots.items).raw -ℤ (first_pair no_pair t.boots.items).gtod)
   pub sched_offset :
       t.sched_offset ≡ (if m.stable then wrap (((last_pair no_pair t.boots.items).gtod +ℤ t.gtod_offset) -ℤ (last_pair no_pair t.boots.items).raw) else pos 0)
-  pub start_word : t.start_word ≡ wrap ((last_pair no_pair t.boots.items).gtod +ℤ t.gtod_offset)
+  pub start_word : t.start_word ≡ opening_at (wrap ((last_pair no_pair t.boots.items).gtod +ℤ t.gtod_offset)) t.boot_demotion
 
 -- each CPU's clock word has a legal history from the opening, and each per-CPU reading names stamps of its CPU: an owner its
 -- last one, and so the last before the reading, a reader none older than the reading before
@@ -43,10 +53,10 @@ pub record HasLegalHistories (m : Plan) (t : Trace) : Type 0 where
   pub words : EachFrom (λ w lines. IsLegalHistory t.start_word (steps_on w (steps_of t)) lines.items) 0 t.histories.items
   pub targets : All (ReachesTarget m.tick) (steps_of t)
   pub sources : All (λ p. NamesSource t.start_word (steps_of t) p.step.why) (steps_of t)
-  pub owners : All (λ es. Along (λ p e. NamesPair t.gtod_offset p e.kind) (λ p e. pair_after p e.kind) (stamp_zero t) es.items) (owners m t)
+  pub owners : All (λ es. Along (λ p e. NamesPair (standing_offset t) p e.kind) (λ p e. pair_after p e.kind) (stamp_zero t) es.items) (owners m t)
   pub readers :
       AllZip
-      (λ cpu es. Along (λ n e. NamesStamps (stamps_of t cpu) t.gtod_offset n e.kind) (λ n e. numbers_after (stamps_of t cpu) n e.kind) first_numbers es.items)
+      (λ cpu es. Along (λ n e. NamesStamps (stamps_of t cpu) (standing_offset t) n e.kind) (λ n e. numbers_after (stamps_of t cpu) n e.kind) first_numbers es.items)
       (reader_cpus m t)
       (readers m t)
 
@@ -59,6 +69,12 @@ HoldsEachStepOnce t =
 abbrev pub HasModes : Trace → Type 0
 HasModes t = All (λ es. Along (λ turned e. IsOfMode (modes_of t) t.sched_offset turned e.kind) (λ turned e. turned_after turned e.kind) false es.items) t.threads.items
 
+-- the machine's watchdog made its checks, with the stamps and the demotion that they call for
+pub record HasWatchdog (m : Plan) (t : Trace) : Type 0 where
+  pub there : is_some t.watch ≡ is_some m.watchdog
+  pub checks : (w : WatchTrace) → t.watch ≡ Some w → AreChecks m t.ups.failed w
+  pub called : (w : WatchTrace) → t.watch ≡ Some w → AreCalledFor (begins_stable t) w
+
 pub record IsLawful (m : Plan) (t : Trace) : Type 0 where
   pub script : FollowsScripts m t
   pub readings : HasRightReadings m t
@@ -67,4 +83,6 @@ pub record IsLawful (m : Plan) (t : Trace) : Type 0 where
   pub seen : AllZip (λ cpu es. NeverFalls t.start_word (base_of t) cpu [] es.items) t.cpu_of.items t.threads.items
   pub modes : HasModes t
   pub bring_up : IsBroughtUp m None t.ups
+  pub watchdog : HasWatchdog m t
+  pub demotion : HasDemotions m t
   pub opening : HasOpening m t

@@ -1,11 +1,14 @@
+pub mod Checks
 pub mod Lines
 pub mod TraceText
+pub mod WatchText
 pub mod Threads
 pub mod Couples
 pub mod Updates
 pub mod Taking
 pub mod Parts
 pub mod ScriptEvents
+pub mod Standing
 pub mod Modes
 pub mod TicketOrder
 pub mod RightReadings
@@ -15,4 +18,7 @@ pub mod LegalHistory
 pub mod SeenBefore
 pub mod Filling
 pub mod SortedHistory
+pub mod Watchdog
+pub mod Demoted
 pub mod LawfulTrace
+pub mod Counting

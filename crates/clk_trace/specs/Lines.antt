@@ -1,5 +1,5 @@
 -- The lines of a trace's text, as data: what is printed, and nothing else.
-use Rattle.std.specs.Prelude.{ℕ, ℤ, List, [], ◌∷◌, ◌++◌, codes, decimal, flat_map, if◌then◌else◌}
+use Rattle.std.specs.Prelude.{ℕ, ℤ, List, [], ◌∷◌, ◌++◌, codes, decimal, flat_map, slice_index, if◌then◌else◌}
 use Rattle.std.specs.Fmt.{signed_decimal}
 use Rattle.clk_base.specs.Text.{line}
 use Rattle.clk_machine.specs.declared.reading.RawReading.{RawReading}
@@ -12,6 +12,11 @@ use Rattle.clk_warp.specs.declared.outcome.Verdict.{Verdict}
 use Rattle.clk_warp.specs.declared.outcome.Verdict.TheVariants as verdict
 use Rattle.clk_adjust.specs.declared.up.UpOutcome.{UpOutcome}
 use Rattle.clk_adjust.specs.declared.up.UpOutcome.TheVariants as outcome
+use Rattle.clk_watch.specs.declared.attempt.Attempt.{Attempt}
+use Rattle.clk_watch.specs.declared.record.Outcome.{Outcome}
+use Rattle.clk_watch.specs.declared.record.Outcome.TheVariants as visit
+use Rattle.clk_demote.specs.declared.events.StableStamp.{StableStamp}
+use Rattle.clk_demote.specs.declared.events.Demotion.{Demotion}
 use Rattle.clk_trace.specs.declared.event.Event.{Event}
 use Rattle.clk_trace.specs.declared.event.EventKind.{EventKind}
 use Rattle.clk_trace.specs.declared.event.EventKind.TheVariants as kind
@@ -31,11 +36,22 @@ pub data Line : Type 0 where
   Done : ℕ → ℕ → ℕ → ℕ → ℕ → Verdict → Line
   -- a CPU, what its counter was adjusted by in all, and what came of its bring-up
   Cpu : ℕ → ℤ → UpOutcome → Line
+  -- a demotion, at boot or of the watchdog
+  Demoted : Demotion → Line
   -- a clock word and where it opens
   Word : ℕ → ℤ → Line
   -- a thread and its CPU; one of its events
   Thread : ℕ → ℕ → Line
   Shown : Event → Line
+  -- the watchdog's thread; a check with its CPU and the first ticket of its pause; an attempt at a source, and what the visit
+  -- found; a stable stamp; a lift of a clock word, which it had before and after; and the place of the current source
+  Watchdog : ℕ → Line
+  Checking : ℕ → ℕ → ℕ → Line
+  Attempted : ℕ → Attempt → Line
+  Judged : ℕ → Outcome → Line
+  Stamped : StableStamp → Line
+  Lifted : ℕ → ℤ → ℤ → Line
+  Current : ℕ → Line
   -- a clock word and how many steps it made; a step's thread and call, and the word before and after
   History : ℕ → ℕ → Line
   Step : ℕ → ℕ → ℤ → ℤ → Line
@@ -68,6 +84,15 @@ outcome_name outcome.Synced = codes "synced"
 outcome_name outcome.Failed = codes "failed"
 outcome_name outcome.Skipped = codes "skipped"
 
+-- what a visit of the watchdog found; the ns are how far the source and the watchdog went
+abbrev pub judgement_words : Outcome → List (List ℕ)
+judgement_words visit.Passed = codes "passed" ∷ []
+judgement_words visit.Slow = codes "slow" ∷ []
+judgement_words visit.Skip = codes "skip" ∷ []
+judgement_words visit.First = codes "first" ∷ []
+judgement_words (visit.Good cs_ns wd_ns) = codes "good" ∷ signed_decimal cs_ns ∷ signed_decimal wd_ns ∷ []
+judgement_words (visit.Bad cs_ns wd_ns) = codes "bad" ∷ signed_decimal cs_ns ∷ signed_decimal wd_ns ∷ []
+
 abbrev pub raw_words : RawReading → List (List ℕ)
 raw_words r = decimal r.ticket ∷ decimal r.cyc ∷ decimal r.rec ∷ signed_decimal r.ns ∷ []
 
@@ -95,9 +120,22 @@ line_words (Turn r) = (if r.start then codes "s" else codes "r") ∷ side_name r
 line_words (Done nr max random cur_source cur_target verdict) =
     codes "done" ∷ decimal nr ∷ decimal max ∷ decimal random ∷ decimal cur_source ∷ decimal cur_target ∷ verdict_words verdict
 line_words (Cpu cpu adjust outcome) = codes "cpu" ∷ decimal cpu ∷ signed_decimal adjust ∷ outcome_name outcome ∷ []
+line_words (Demoted d) =
+    (codes "demote" ∷ decimal d.gtod_ticket ∷ signed_decimal d.gtod ∷ raw_words d.raw)
+    ++ (signed_decimal d.gtod_offset ∷ signed_decimal d.opening ∷ signed_decimal d.drift ∷ [])
 line_words (Word w opening) = codes "word" ∷ decimal w ∷ signed_decimal opening ∷ []
 line_words (Thread thread cpu) = codes "thread" ∷ decimal thread ∷ decimal cpu ∷ []
 line_words (Shown e) = decimal e.call ∷ kind_words e.kind
+line_words (Watchdog thread) = codes "watch" ∷ decimal thread ∷ []
+line_words (Checking number cpu ticket) = codes "check" ∷ decimal number ∷ decimal cpu ∷ decimal ticket ∷ []
+line_words (Attempted source a) =
+    codes "read" ∷ decimal source ∷ decimal (slice_index a.ticket 0) ∷ decimal (slice_index a.value 0)
+    ∷ decimal (slice_index a.ticket 1) ∷ decimal (slice_index a.value 1) ∷ decimal (slice_index a.ticket 2) ∷ decimal (slice_index a.value 2)
+    ∷ decimal (slice_index a.ticket 3) ∷ decimal (slice_index a.value 3) ∷ []
+line_words (Judged source outcome) = codes "source" ∷ decimal source ∷ judgement_words outcome
+line_words (Stamped s) = (codes "stable" ∷ decimal s.gtod_ticket ∷ signed_decimal s.gtod ∷ raw_words s.raw) ++ (signed_decimal s.offset ∷ [])
+line_words (Lifted w old new) = codes "lift" ∷ decimal w ∷ signed_decimal old ∷ signed_decimal new ∷ []
+line_words (Current place) = codes "current" ∷ decimal place ∷ []
 line_words (History w count) = codes "history" ∷ decimal w ∷ decimal count ∷ []
 line_words (Step thread call old new) = decimal thread ∷ decimal call ∷ signed_decimal old ∷ signed_decimal new ∷ []
 line_words (End tickets) = codes "end" ∷ decimal tickets ∷ []

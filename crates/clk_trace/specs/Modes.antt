@@ -1,24 +1,19 @@
 -- In which mode of the clock an event may stand.
-use Rattle.std.specs.Prelude.{◌≡◌, ℤ, ◌+ℤ◌, Bool, true, false, not, IsTrue, IsFalse}
+use Rattle.std.specs.Prelude.{◌≡◌, ℤ, ◌+ℤ◌, Bool, true, not, ◌||◌, is_some, IsTrue, IsFalse}
 use Rattle.clk_num.specs.Wrapping.{wrap}
-use Rattle.clk_words.specs.declared.opening.Mode.{Mode}
-use Rattle.clk_words.specs.declared.opening.Mode.TheVariants as mode
+use Rattle.clk_trace.specs.Standing.{begins_stable, demotion_by}
 use Rattle.clk_trace.specs.declared.event.EventKind.{EventKind}
 use Rattle.clk_trace.specs.declared.event.EventKind.TheVariants.{Stable, Local, Couple, Stamp, Nothing, Update, Pause}
 use Rattle.clk_trace.specs.declared.trace.Trace.{Trace}
-
-abbrev pub is_stable : Mode → Bool
-is_stable mode.Stable = true
-is_stable mode.PerCpu = false
 
 -- which events a run may show: those of the stable clock, and those of per-CPU clocks
 pub record Modes : Type 0 where
   pub stable : Bool
   pub percpu : Bool
 
--- with no demotion the clock stays as it starts
+-- a clock that is stable as the scripts begin is per-CPU after a demotion alone, and any other clock is per-CPU throughout
 abbrev pub modes_of : Trace → Modes
-modes_of t = record { stable = is_stable t.starts; percpu = not (is_stable t.starts) }
+modes_of t = record { stable = begins_stable t; percpu = not (begins_stable t) || is_some (demotion_by t.watch) }
 
 -- an event may stand, where `turned` tells whether its thread made a per-CPU reading before; a stable reading is the raw
 -- clock with the offset

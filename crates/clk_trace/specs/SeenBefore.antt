@@ -2,6 +2,7 @@
 use Rattle.std.specs.Prelude.{ℕ, ◌==◌, ℤ, int_lt, List, [], ◌∷◌, ◌++◌, flat_map, fold, if◌then◌else◌}
 use Rattle.clk_base.specs.Walk.{Along}
 use Rattle.clk_num.specs.Wrapping.{above, IsNotBelow}
+use Rattle.clk_trace.specs.Standing.{lifted_from, lifts_by}
 use Rattle.clk_trace.specs.declared.event.Event.{Event}
 use Rattle.clk_trace.specs.declared.event.EventKind.{EventKind}
 use Rattle.clk_trace.specs.declared.event.EventKind.TheVariants.{Stable, Local, Couple, Stamp, Nothing, Update, Pause}
@@ -36,9 +37,9 @@ highest opening x xs = fold (higher opening) x xs
 abbrev pub values_on : ℕ → List Seen → List ℤ
 values_on w seen = flat_map (λ v. if v.word == w then v.value ∷ [] else []) seen
 
--- where the words stood when per-CPU readings began: with no demotion at their opening
+-- where the words stood when per-CPU readings began: as the watchdog's demotion lifted them, or else at their opening
 abbrev pub base_of : Trace → ℕ → ℤ
-base_of t w = t.start_word
+base_of t w = lifted_from t.start_word (lifts_by t.watch) w
 
 -- the highest value of the word that was seen, or where it stood at first; nothing lies below that
 abbrev pub seen_of : ℤ → (ℕ → ℤ) → ℕ → List Seen → ℤ

@@ -5,6 +5,8 @@ use Rattle.clk_trace.specs.Threads.{own_events}
 use Rattle.clk_trace.specs.declared.event.EventKind.{EventKind}
 use Rattle.clk_trace.specs.declared.event.EventKind.TheVariants.{Stable, Local, Couple, Stamp, Nothing, Update, Pause}
 use Rattle.clk_demote.specs.declared.events.StableStamp.{StableStamp}
+use Rattle.clk_demote.specs.declared.events.Demotion.{Demotion}
+use Rattle.clk_trace.specs.Standing.{demotion_of}
 use Rattle.clk_trace.specs.declared.trace.Trace.{Trace}
 
 -- the pair of a stamp: the raw reading and the monotonic time there, in ns
@@ -29,9 +31,13 @@ first_pair p (s ∷ ss) = boot_pair s
 abbrev pub no_pair : Pair
 no_pair = record { raw = pos 0; gtod = pos 0 }
 
--- the pair that stood when the clock became per-CPU: with no demotion the boot's last one
+-- the pair that stood when the clock became per-CPU: a demotion's, or else the boot's last one
+abbrev pub pair_at : Pair → Option Demotion → Pair
+pair_at p None = p
+pair_at p (Some d) = record { raw = d.raw.ns; gtod = d.gtod }
+
 abbrev pub stamp_zero : Trace → Pair
-stamp_zero t = last_pair no_pair t.boots.items
+stamp_zero t = pair_at (last_pair no_pair t.boots.items) (demotion_of t)
 
 -- ---- a CPU's
 

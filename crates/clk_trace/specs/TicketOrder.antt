@@ -5,14 +5,12 @@ use Rattle.clk_base.specs.Blocks.{Covers, RisesFrom, top_of}
 use Rattle.clk_num.specs.Listed.{Listed}
 use Rattle.clk_adjust.specs.Tickets.{all_readings}
 use Rattle.clk_adjust.specs.declared.up.CpuUp.{CpuUp}
+use Rattle.clk_trace.specs.Checks.{listed, one, stamp_blocks, demotion_blocks}
 use Rattle.clk_trace.specs.declared.event.Event.{Event}
 use Rattle.clk_trace.specs.declared.event.EventKind.{EventKind}
 use Rattle.clk_trace.specs.declared.event.EventKind.TheVariants.{Stable, Local, Couple, Stamp, Nothing, Update, Pause}
 use Rattle.clk_demote.specs.declared.events.StableStamp.{StableStamp}
-
--- the block of one reading
-abbrev pub one : ℕ → Block
-one k = record { first = k; count = 1 }
+use Rattle.clk_trace.specs.declared.trace.Trace.{Trace}
 
 -- what an event drew, in its order
 abbrev pub blocks_of_kind : EventKind → List Block
@@ -33,11 +31,16 @@ thread_blocks es = flat_map blocks_of es.items
 
 -- what the boot drew: the epoch's ticket, and two for each stamp
 abbrev pub boot_blocks : ℕ → List StableStamp → List Block
-boot_blocks epoch boots = one epoch ∷ flat_map (λ s. one s.gtod_ticket ∷ one s.raw.ticket ∷ []) boots
+boot_blocks epoch boots = one epoch ∷ flat_map stamp_blocks boots
 
 -- what the bring-up drew: one ticket for each reading of its runs
 abbrev pub up_blocks : List CpuUp → List Block
 up_blocks ups = map (λ r. one r.ticket) (all_readings ups)
+
+-- what was drawn before the scripts: by the boot, the bring-up, and then a demotion at boot
+abbrev pub first_blocks : Trace → List Block
+first_blocks t =
+    boot_blocks t.epoch_ticket t.boots.items ++ up_blocks t.ups.cpus.items ++ flat_map demotion_blocks (listed t.boot_demotion)
 
 -- all blocks are disjoint and cover the numbers below n; those before the scripts rise and come first; each list rises by itself
 pub record IsTicketOrder (first : List Block) (lists : List (List Block)) (n : ℕ) : Type 0 where

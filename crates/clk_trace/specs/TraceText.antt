@@ -1,17 +1,21 @@
 -- The text of a trace, line by line.
-use Rattle.std.specs.Prelude.{ℕ, ◌+◌, ◌==◌, Bool, ℤ, List, [], ◌∷◌, ◌++◌, map, length, slice_index, if◌then◌else◌}
+use Rattle.std.specs.Prelude.{ℕ, ◌+◌, ◌==◌, ◌%◌, Bool, ℤ, List, [], ◌∷◌, ◌++◌, map, flat_map, length, slice_index, if◌then◌else◌}
 use Rattle.clk_base.specs.Text.{lines_from}
 use Rattle.clk_base.specs.Walk.{flat_from}
 use Rattle.clk_num.specs.Listed.{Listed}
 use Rattle.clk_warp.specs.Verdicts.{verdict_of}
 use Rattle.clk_warp.specs.declared.side.WarpReading.{WarpReading}
 use Rattle.clk_warp.specs.declared.side.WarpRun.{WarpRun}
+use Rattle.clk_words.specs.declared.step.Step.{Step}
 use Rattle.clk_adjust.specs.declared.up.CpuUp.{CpuUp}
 use Rattle.clk_trace.specs.Lines.{Line, step_line, line_text, text_of}
-use Rattle.clk_trace.specs.Lines.Line.{Head, Epoch, Boot, Start, Run, Turn, Done, Cpu, Word, Thread, Shown, History, End}
+use Rattle.clk_trace.specs.Lines.Line.{Head, Epoch, Boot, Start, Run, Turn, Done, Cpu, Demoted, Word, Thread, Shown, Watchdog, Checking, Attempted, Judged, Stamped, Lifted, Current, History, End}
+use Rattle.clk_trace.specs.Checks.{Visit, Check, listed, checks_of}
 use Rattle.clk_trace.specs.declared.event.Event.{Event}
 use Rattle.clk_demote.specs.declared.events.StableStamp.{StableStamp}
+use Rattle.clk_demote.specs.declared.events.Demotion.{Demotion}
 use Rattle.clk_trace.specs.declared.trace.HistoryStep.{HistoryStep}
+use Rattle.clk_trace.specs.declared.trace.WatchTrace.{WatchTrace}
 use Rattle.clk_trace.specs.declared.trace.Trace.{Trace}
 
 abbrev pub boot_line : StableStamp → Line
@@ -42,12 +46,39 @@ thread_lines cpus n events = Thread n (slice_index cpus n) ∷ map (λ e. Shown 
 abbrev pub history_lines : ℕ → Listed HistoryStep → List Line
 history_lines w steps = History w (length steps.items) ∷ map step_line steps.items
 
+-- ---- the watchdog's
+
+abbrev pub lift_line : Step → Line
+lift_line s = Lifted s.word s.old s.new
+
+-- a demotion, and these lifts
+abbrev pub demotion_lines : List Step → Demotion → List Line
+demotion_lines lifts d = Demoted d ∷ map lift_line lifts
+
+-- a visit: its attempts, what it found, and the stable stamp or the demotion with its lifts after that, if any
+abbrev pub visit_lines : List Step → Visit → List Line
+visit_lines lifts v =
+    map (λ a. Attempted v.made.source a) v.attempts
+    ++ (Judged v.made.source v.made.outcome ∷ map (λ s. Stamped s) (listed v.stamp))
+    ++ flat_map (demotion_lines lifts) (listed v.demotion)
+
+-- the check of this number among so many CPUs, which it takes in turn
+abbrev pub check_lines : ℕ → List Step → ℕ → Check → List Line
+check_lines cpus lifts n c = Checking n (n % cpus) c.ticket ∷ flat_map (visit_lines lifts) c.visits ++ (Current c.current ∷ [])
+
+abbrev pub watch_lines : ℕ → WatchTrace → List Line
+watch_lines cpus w = Watchdog w.thread ∷ flat_from (check_lines cpus w.lifts.items) 0 (checks_of w)
+
+-- ---- all of them
+
 abbrev pub lines_of : Trace → List Line
 lines_of t =
     (Head ∷ Epoch t.epoch_ticket t.epoch_cyc ∷ map boot_line t.boots.items)
     ++ (Start t.starts t.sched_offset t.gtod_offset ∷ flat_from up_lines 0 t.ups.cpus.items)
+    ++ map (λ d. Demoted d) (listed t.boot_demotion)
     ++ flat_from (word_lines t.start_word) 0 t.histories.items
     ++ flat_from (thread_lines t.cpu_of.items) 0 t.threads.items
+    ++ flat_map (watch_lines (length t.histories.items)) (listed t.watch)
     ++ flat_from history_lines 0 t.histories.items
     ++ (End t.tickets ∷ [])
 
@@ -74,6 +105,9 @@ run_text cpu count n run =
 
 abbrev pub up_text : ℕ → CpuUp → List ℕ
 up_text n up = lines_from (run_text up.cpu (length up.runs.items)) 0 up.runs.items ++ line_text (cpu_line up)
+
+abbrev pub boot_demotion_text : ℕ → Demotion → List ℕ
+boot_demotion_text n d = line_text (Demoted d)
 
 abbrev pub word_text : {A : Type 0} → ℤ → ℕ → A → List ℕ
 word_text opening w _ = line_text (Word w opening)

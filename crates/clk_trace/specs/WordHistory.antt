@@ -1,5 +1,5 @@
--- The history of a clock word, out of the events of the threads.
-use Rattle.std.specs.Prelude.{ℕ, ◌+◌, ◌==◌, Bool, ℤ, List, [], ◌∷◌, ◌++◌, map, filter, IsPermutation, IsSorted}
+-- The history of a clock word, out of the events of the threads and the lifts of the watchdog.
+use Rattle.std.specs.Prelude.{ℕ, ◌+◌, ◌==◌, Bool, ℤ, List, [], ◌∷◌, ◌++◌, map, filter, IsPermutation, IsSorted, Option, Some, None}
 use Rattle.std.specs.declared.cmp.Ordering.{Ordering}
 use Rattle.std.specs.Ordering.{ordering_then, nat_cmp, int_cmp, int_eq, bool_cmp}
 use Rattle.clk_num.specs.Listed.{Listed}
@@ -11,6 +11,7 @@ use Rattle.clk_trace.specs.declared.event.Event.{Event}
 use Rattle.clk_trace.specs.declared.event.EventKind.{EventKind}
 use Rattle.clk_trace.specs.declared.event.EventKind.TheVariants.{Stable, Local, Couple, Stamp, Nothing, Update, Pause}
 use Rattle.clk_trace.specs.declared.trace.HistoryStep.{HistoryStep}
+use Rattle.clk_trace.specs.declared.trace.WatchTrace.{WatchTrace}
 use Rattle.clk_trace.specs.declared.trace.Trace.{Trace}
 
 -- a step of the clock words, made `by` the thread of that number, and the place of its event there
@@ -53,8 +54,19 @@ abbrev pub all_steps : ℕ → List ℕ → List (Listed Event) → List Placed
 all_steps n (cpu ∷ cpus) (es ∷ threads) = steps_from n cpu 0 es.items ++ all_steps (n + 1) cpus threads
 all_steps n _ _ = []
 
+-- the lifts of the watchdog, under its thread's number; they have no place among events, and show 0
+abbrev pub placed_lift : ℕ → Step → Placed
+placed_lift thread s = record {
+  step = record { by = thread; call = s.call; word = s.word; why = s.why; old = s.old; new = s.new };
+  part = 0;
+}
+
+abbrev pub lift_steps : Option WatchTrace → List Placed
+lift_steps None = []
+lift_steps (Some w) = map (placed_lift w.thread) w.lifts.items
+
 abbrev pub steps_of : Trace → List Placed
-steps_of t = all_steps 0 t.cpu_of.items t.threads.items
+steps_of t = all_steps 0 t.cpu_of.items t.threads.items ++ lift_steps t.watch
 
 -- those on the word w, wherever they were made
 abbrev pub steps_on : ℕ → List Placed → List Placed

@@ -1,20 +1,25 @@
-//! The histories of the clock words, found from the events of all threads.
-ghost use Rattle.std.specs.Prelude.{◌≡◌, ◌^◌, ◌<◌, [], ◌∷◌, length, All, if◌then◌else◌, nat_eq, IsPermutation, IsSorted};
+//! The histories of the clock words, found from the events of all threads and the lifts of the watchdog.
+ghost use Rattle.std.specs.Prelude.{◌≡◌, ◌^◌, ◌<◌, [], ◌∷◌, length, All, if◌then◌else◌, map, nat_eq, IsPermutation, IsSorted};
 ghost use Rattle.clk_trace.specs.Filling.{Gained, HasRoomFor, NamesWordsBelow, HasWordsBelow, MayFill, lines_on, Sorts, AreSorted, FillsHistories};
-ghost use Rattle.clk_trace.specs.WordHistory.{steps_of_kind, steps_from, all_steps, history_cmp};
+ghost use Rattle.clk_trace.specs.Standing.{lifts_by};
+ghost use Rattle.clk_trace.specs.WordHistory.{steps_of_kind, steps_from, all_steps, placed_lift, lift_steps, history_cmp};
 
 use crate::event::{Event, EventKind};
-use crate::trace::{HistoryStep, Trace};
+use crate::trace::{HistoryStep, Trace, WatchTrace};
 use clk_num::{List, above};
+use clk_words::Step;
 
 /// Fills the history of each clock word, which must be empty and have room, with the steps that the events of all threads
-/// made on it: by how far the word was then above its opening, rising steps before flat ones, then by thread, call and
-/// place. Nothing else is changed. It takes no memory: one pass over the events, and a sort in place.
+/// made on it and the lift by which the watchdog opened it: by how far the word was then above its opening, rising steps
+/// before flat ones, then by thread, call and place. A lift stands under the watchdog's thread, which must be none of the
+/// others, with the number of its check and place 0; no word is lifted twice. Nothing else is changed. It takes no memory:
+/// one pass over the events and the lifts, and a sort in place.
 pub fn histories(trace: &mut Trace)
     requires { MayFill trace.old }
     ensures { FillsHistories trace.old trace.new }
 {
     fill(&mut trace.histories, &trace.cpu_of, &trace.threads);
+    fill_lifts(&mut trace.histories, &trace.watch);
     sort(&mut trace.histories, &trace.start_word);
 }
 
@@ -91,6 +96,44 @@ fn keep_event(lists: &mut [List<HistoryStep>], thread: u32, cpu: u32, part: u32,
         | EventKind::Update(_)
         | EventKind::Pause { .. } => {}
     }
+}
+
+/// Appends the lifts of the watchdog, if there is one, to the lists of their words.
+fn fill_lifts(lists: &mut List<List<HistoryStep>>, watch: &Option<WatchTrace>)
+    requires words { All (λ s. s.word < length lists.old.items) (lifts_by watch.now) }
+    requires room { HasRoomFor lists.old.items (λ w. lines_on w (lift_steps watch.now)) }
+    ensures { Gained lists.old.items lists.new.items (λ w. lines_on w (lift_steps watch.now)) }
+{
+    if let Some(watch) = watch {
+        keep_lifts(lists.items_mut(), watch.thread, watch.lifts.items());
+    }
+}
+
+/// Appends lifts under the thread of this number.
+fn keep_lifts(lists: &mut [List<HistoryStep>], thread: u32, lifts: &[Step])
+    requires words { All (λ s. s.word < length lists.old) lifts.now }
+    requires room { HasRoomFor lists.old (λ w. lines_on w (map (placed_lift thread) lifts.now)) }
+    ensures { Gained lists.old lists.new (λ w. lines_on w (map (placed_lift thread) lifts.now)) }
+{
+    for lift in lifts {
+        keep_lift(lists, thread, lift);
+    }
+}
+
+/// Appends a lift. It has no place among events, and shows 0.
+fn keep_lift(lists: &mut [List<HistoryStep>], thread: u32, lift: &Step)
+    requires word { lift.now.word < length lists.old }
+    requires room { HasRoomFor lists.old (λ w. lines_on w (placed_lift thread lift.now ∷ [])) }
+    ensures { Gained lists.old lists.new (λ w. lines_on w (placed_lift thread lift.now ∷ [])) }
+{
+    let line = HistoryStep {
+        thread,
+        call: lift.call,
+        part: 0,
+        old: lift.old,
+        new: lift.new,
+    };
+    keep(lists, lift.word, line);
 }
 
 /// Appends a line to the list of a word.

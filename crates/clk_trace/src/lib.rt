@@ -7,6 +7,7 @@
 //! [`Out`], as that of a trace does.
 #![tactic(auto)]
 
+mod counting;
 mod event;
 mod gather;
 #[cfg(test)]
@@ -19,11 +20,13 @@ mod sink;
 mod tests;
 mod trace;
 mod write;
+mod write_watch;
 
+pub use counting::{steps_are_counted, tickets_are_counted};
 pub use event::{Event, EventKind};
 pub use gather::histories;
 pub use laws::sorted_steps_are_a_chain;
 pub use out::{Out, Part, WriteFault};
 pub use sink::{Failed, Sink};
-pub use trace::{HistoryStep, Trace};
+pub use trace::{HistoryStep, Trace, WatchTrace};
 pub use write::write_trace;

@@ -1,5 +1,5 @@
 //! A whole trace as text, the greatest and least clock values, and a sink that fails.
-ghost use Rattle.std.specs.Prelude.{◌≡◌, [], ◌∷◌, length, IfOk};
+ghost use Rattle.std.specs.Prelude.{◌≡◌, [], ◌∷◌, length, IfOk, None};
 ghost use Rattle.clk_trace.specs.Filling.{NamesWordsBelow};
 
 use crate::event::{Event, EventKind};
@@ -7,21 +7,17 @@ use crate::out::WriteFault;
 use crate::sink::{Failed, Sink};
 use crate::trace::{HistoryStep, Trace};
 use crate::write::write_trace;
-use clk_adjust::{BroughtUp, CpuUp, UpOutcome};
+use clk_adjust::BroughtUp;
 use clk_base::raised;
 use clk_demote::StableStamp;
 use clk_machine::{Published, RawReading};
 use clk_num::List;
-use clk_warp::{Side, WarpReading, WarpRun};
 use clk_words::Mode;
 use std::alloc::{AllocError, Global};
 use std::test::Fail;
 
 const TEXT: &str =
     "trace 1\nepoch 0 0\nboot 1 10 2 20 0 20\nstart percpu 0 10\nword 0 20\nthread 0 0\n0 local 3 30 0 30 20 10 10 20 30\n1 stamp 4 40 5 50 0 50\n1 local 6 60 0 60 50 40 10 30 60\n2 pause 7 200000\n3 update 1 200007 2000070 2000070\nhistory 0 2\n0 0 20 30\n0 1 30 60\nend 200008\n";
-
-const BRING_UP: &str =
-    "trace 1\nepoch 0 7\nstart stable -9223372036854775808 9223372036854775807\nrun 1 1\ns a 1 2400\ns b 2 2724\nr b 3 2748\nr a 4 2472\ndone 24 276 0 276 0 again -276\nrun 1 2\ndone 0 0 0 0 0 passed\ncpu 1 -276 synced\nend 1\n";
 
 /// A sink that takes at most 16 bytes at a time and fails at one of its writes, counted from 1.
 #[derive(Drop)]
@@ -159,58 +155,10 @@ pub fn no_ups(alloc: Global) -> Result<BroughtUp, AllocError> {
     })
 }
 
-/// The bring-up of the second of two CPUs.
-pub fn one_up(alloc: Global, up: CpuUp) -> Result<BroughtUp, AllocError> {
-    Ok(BroughtUp {
-        cpus: single(alloc, up)?,
-        failed: false,
-    })
-}
-
-fn reading(side: Side, start: bool, ticket: u64, tsc: u64) -> WarpReading {
-    WarpReading {
-        side,
-        start,
-        ticket,
-        tsc,
-    }
-}
-
-/// A run with this greatest fall, which the source saw this often.
-fn warp_run(alloc: Global, nr: u32, max: u64) -> Result<WarpRun, AllocError>
-    ensures { IfOk result (λ run. run.readings.room ≡ 4) }
-{
-    Ok(WarpRun {
-        readings: List::with_room(alloc, 4)?,
-        nr,
-        max,
-        random: 0,
-        cur_source: max,
-        cur_target: 0,
-    })
-}
-
-/// A CPU that was set right after its first run.
-fn set_right(alloc: Global) -> Result<CpuUp, AllocError> {
-    let mut first = warp_run(alloc, 24, 276)?;
-    first.readings.push(reading(Side::Source, true, 1, 2_400));
-    first.readings.push(reading(Side::Target, true, 2, 2_724));
-    first.readings.push(reading(Side::Target, false, 3, 2_748));
-    first.readings.push(reading(Side::Source, false, 4, 2_472));
-    let mut runs = List::with_room(alloc, 2)?;
-    runs.push(first);
-    runs.push(warp_run(alloc, 0, 0)?);
-    Ok(CpuUp {
-        cpu: 1,
-        runs,
-        adjust: -276,
-        outcome: UpOutcome::Synced,
-    })
-}
-
 /// A run without threads, whose offsets are the ends of their type.
-fn no_threads(alloc: Global, ups: BroughtUp) -> Result<Trace, AllocError>
-    ensures { IfOk result (λ t. length t.cpu_of.items ≡ length t.threads.items) }
+fn no_threads(alloc: Global) -> Result<Trace, AllocError>
+    ensures cpus { IfOk result (λ t. length t.cpu_of.items ≡ length t.threads.items) }
+    ensures watch { IfOk result (λ t. t.watch ≡ None) }
 {
     Ok(Trace {
         epoch_ticket: 0,
@@ -219,17 +167,20 @@ fn no_threads(alloc: Global, ups: BroughtUp) -> Result<Trace, AllocError>
         starts: Mode::Stable,
         sched_offset: i64::MIN,
         gtod_offset: i64::MAX,
-        ups,
+        ups: no_ups(alloc)?,
+        boot_demotion: None,
         start_word: 0,
         cpu_of: List::with_room(alloc, 0)?,
         threads: List::with_room(alloc, 0)?,
+        watch: None,
         histories: List::with_room(alloc, 0)?,
         tickets: 1,
     })
 }
 
 fn run(alloc: Global) -> Result<Trace, AllocError>
-    ensures { IfOk result (λ t. length t.cpu_of.items ≡ length t.threads.items) }
+    ensures cpus { IfOk result (λ t. length t.cpu_of.items ≡ length t.threads.items) }
+    ensures watch { IfOk result (λ t. t.watch ≡ None) }
 {
     let boot = StableStamp {
         gtod_ticket: 1,
@@ -245,9 +196,11 @@ fn run(alloc: Global) -> Result<Trace, AllocError>
         sched_offset: 0,
         gtod_offset: 10,
         ups: no_ups(alloc)?,
+        boot_demotion: None,
         start_word: 20,
         cpu_of: single(alloc, 0)?,
         threads: single(alloc, events(alloc)?)?,
+        watch: None,
         histories: single(alloc, history(alloc)?)?,
         tickets: 200_008,
     })
@@ -273,22 +226,12 @@ fn a_fault_leaves_a_beginning(rt: HostRuntime) -> Result<(), Fail> {
 
 #[test]
 fn clock_values_reach_both_ends(rt: HostRuntime) -> Result<(), Fail> {
-    let trace = no_threads(rt.alloc(), no_ups(rt.alloc())?)?;
+    let trace = no_threads(rt.alloc())?;
     let mut sink = sink(rt.alloc(), 0);
     assert_eq!(rt; write_trace(&mut sink, &trace), Ok(()));
     assert_eq!(rt;
         sink.bytes.as_slice(),
         "trace 1\nepoch 0 7\nstart stable -9223372036854775808 9223372036854775807\nend 1\n".as_bytes()
     );
-    Ok(())
-}
-
-#[test]
-fn a_bring_up_is_written_run_by_run(rt: HostRuntime) -> Result<(), Fail> {
-    let ups = one_up(rt.alloc(), set_right(rt.alloc())?)?;
-    let trace = no_threads(rt.alloc(), ups)?;
-    let mut sink = sink(rt.alloc(), 0);
-    assert_eq!(rt; write_trace(&mut sink, &trace), Ok(()));
-    assert_eq!(rt; sink.bytes.as_slice(), BRING_UP.as_bytes());
     Ok(())
 }

@@ -7,13 +7,16 @@ ghost use Rattle.clk_trace.specs.Taking.{Takes, progress_of};
 ghost use Rattle.clk_trace.specs.Parts.{part_text, part_room};
 ghost use Rattle.clk_warp.specs.Verdicts.{adjustment};
 ghost use Rattle.clk_trace.specs.Lines.{kind_words, line_text, mode_name, side_name as name_of_side, outcome_name as name_of_outcome};
-ghost use Rattle.clk_trace.specs.TraceText.{text, event_text, boot_text, up_text, run_text, reading_text, cpu_line, done_line, word_text, thread_text, step_text, history_text};
+ghost use Rattle.clk_trace.specs.TraceText.{text, event_text, boot_text, up_text, run_text, reading_text, cpu_line, done_line, boot_demotion_text, word_text, thread_text, step_text, history_text};
+ghost use Rattle.clk_trace.specs.Checks.{listed};
+ghost use Rattle.clk_trace.specs.WatchText.{MayWriteWatch};
 
 use crate::event::{Event, EventKind};
 use crate::out::Part::{Name, Negated, Signed, Unsigned};
 use crate::out::{Out, Part, WriteFault};
 use crate::sink::Sink;
 use crate::trace::{HistoryStep, Trace};
+use crate::write_watch::{write_demotion, write_watch};
 use clk_adjust::{CpuUp, UpOutcome};
 use clk_demote::StableStamp;
 use clk_machine::{Published, RawReading};
@@ -21,10 +24,12 @@ use clk_num::List;
 use clk_warp::{Side, WarpReading, WarpRun};
 use clk_words::Mode;
 
-/// Writes the trace's text into a sink, and takes no memory. Each thread must have its CPU. The error is a write that
-/// failed; then the sink took a beginning of the text.
+/// Writes the trace's text into a sink, and takes no memory. Each thread must have its CPU. Where there is a watchdog, there
+/// must be a history, so that a check has its CPU, and the lists of its checks must be as long as each other, with ends that
+/// do not fall and attempts that are there. The error is a write that failed; then the sink took a beginning of the text.
 pub fn write_trace<K: Sink>(sink: &mut K, trace: &Trace) -> Result<(), WriteFault>
     requires cpus { length trace.now.cpu_of.items ≡ length trace.now.threads.items }
+    requires watch { MayWriteWatch (length trace.now.histories.items) trace.now.watch }
     ensures ok { OnOk result (Grew (K.written sink.old) (K.written sink.new) (text trace.now)) }
     ensures err { OnErr result (GrewByPrefix (K.written sink.old) (K.written sink.new) (text trace.now)) }
     ensures cause { HasCause (K.faults sink.old) (K.faults sink.new) result }
@@ -39,8 +44,10 @@ pub fn write_trace<K: Sink>(sink: &mut K, trace: &Trace) -> Result<(), WriteFaul
     write_boots(&mut out, sink, trace.boots.items());
     write_start(&mut out, sink, trace);
     write_ups(&mut out, sink, trace.ups.cpus.items());
+    write_boot_demotion(&mut out, sink, trace);
     write_words(&mut out, sink, trace);
     write_threads(&mut out, sink, trace);
+    write_watch(&mut out, sink, trace);
     write_histories(&mut out, sink, trace.histories.items());
     out.line(sink, &Name("end"), &[Unsigned(trace.tickets)]);
     out.finish(sink)
@@ -262,6 +269,17 @@ fn adjustment_of(run: &WarpRun) -> Part
         Negated(run.max)
     } else {
         Unsigned(run.cur_target)
+    }
+}
+
+/// The demotion at boot, if there is one.
+fn write_boot_demotion<K: Sink>(out: &mut Out, sink: &mut K, trace: &Trace)
+    ensures { Takes (progress_of K.written K.faults sink.old out.old)
+        (progress_of K.written K.faults sink.new out.new)
+        (lines_from boot_demotion_text 0 (listed trace.now.boot_demotion)) }
+{
+    if let Some(demotion) = &trace.boot_demotion {
+        write_demotion(out, sink, demotion);
     }
 }
 

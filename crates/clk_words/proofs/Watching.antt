@@ -19,7 +19,7 @@ use Rattle.clk_words.specs.Heights.{height, IsClockWord}
 use Rattle.clk_words.specs.Bounds.{IsGtod, IsRaw, IsOffset}
 use Rattle.clk_words.specs.Parts.{gtod_of, raw_of, part_of, put_part, PartBegins}
 use Rattle.clk_words.specs.Rights.{has_number}
-use Rattle.clk_words.specs.Knowing.{MayDemote, HasLifted}
+use Rattle.clk_words.specs.Knowing.{MayDemote, HoldsInRange, HasLifted}
 use Rattle.clk_words.specs.Kept.{Chain, last_of, Knows, FitsPairs, PairPart, ModePart, IsQuiet, Kept}
 use Rattle.clk_words.specs.Told.{offset_put, pair_cloned, published, Lifted, StoredOffset, Cloned, StoredMode}
 use Rattle.clk_words.proofs.Fronts.{begins_self}
@@ -211,6 +211,12 @@ quiet_clone chain views id watcher r x v quiet at watch watches =
           (λ ne. rw (put_else v.modes.cloned r k n ne, chain_else chain r k x ne) (quiet.cloned id v at watch k)));
     }
 
+-- the watchdog's seat holds the offset that stands
+holds_range : (offset : ℤ) (start : Start) (v : View) → v.start ≡ start → v.modes.held ≡ Some offset → IsOffset (opens_at start) offset → HoldsInRange v
+holds_range offset start v is held range x e =
+    let same : offset ≡ x = cc in
+    subst (λ (o : Start). IsOffset (opens_at o) x) (sym is) (subst (IsOffset (opens_at start)) same range)
+
 clones : (start : Start) (slots id r n : ℕ) (me : Me Step View) (x : ℤ) → r < 2 * start.cpus → me.0.live ≡ true → MayDemote me.0 → IsBitsOf x n
     → ((c : ℕ) → gtod_of c ≡ r → IsGtod x) → ((c : ℕ) → raw_of c ≡ r → IsRaw (opens_at start) x)
     → Allows (Kept start) slots id me (start.cpus + r) (λ _. n) (λ _. Cloned (step slots (start.cpus + r) n 0 none) me n)
@@ -249,7 +255,14 @@ clones start slots id r n me x low live may bits gtods raws s kept homes at smal
             (modes_word start kept.percpu kept.offset kept.watcher s.words s.views i n (omega arith) kept.modes)
             (fits_cloned kept.percpu kept.offset kept.watcher id r x v.modes (kept.modes.each id v at));
       },
-      record { value = x; word_is = bits; register = r; place_is = ap (λ (o : Start). o.cpus + r) (sym fits.start_is); is = refl },
+      record {
+        value = x;
+        word_is = bits;
+        register = r;
+        place_is = ap (λ (o : Start). o.cpus + r) (sym fits.start_is);
+        is = refl;
+        holds = holds_range kept.offset start v fits.start_is ((kept.modes.each id v at).held_is may.watch) kept.modes.range;
+      },
     )
 
 pub clones_gtod : (start : Start) (slots id word cpu n : ℕ) (me : Me Step View) (x : ℤ) → word ≡ start.cpus + gtod_of cpu → cpu < start.cpus → me.0.live ≡ true

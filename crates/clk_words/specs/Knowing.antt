@@ -1,5 +1,5 @@
 -- What follows from a view alone.
-use Rattle.std.specs.Prelude.{◌≡◌, ℕ, ◌+◌, ◌*◌, ◌<◌, ℤ, false, List, length, map, All, Contains, IsTrue, is_some}
+use Rattle.std.specs.Prelude.{◌≡◌, ℕ, ◌+◌, ◌*◌, ◌<◌, ℤ, false, List, length, map, All, Contains, IsTrue, Some, is_some}
 use Rattle.clk_words.specs.declared.opening.Start.{Start}
 use Rattle.clk_words.specs.declared.kind.SeatKind.{SeatKind}
 use Rattle.clk_words.specs.declared.kind.SeatKind.TheVariants.{Owner, Reader, Watch}
@@ -92,6 +92,10 @@ pub record HasAll (v : View) : Type 0 where
 pub record MayDemote (v : View) : Type 0 where
   pub watch : IsTrue v.modes.watch
   pub stable : v.modes.found ≡ false
+
+-- the offset that it holds, which the words began with or which it has stored, is in range
+abbrev pub HoldsInRange : View → Type 0
+HoldsInRange v = (x : ℤ) → v.modes.held ≡ Some x → IsOffset (opens_at v.start) x
 
 -- it has stored a pair for each CPU, and lifted each word
 abbrev pub HasCloned : View → Type 0

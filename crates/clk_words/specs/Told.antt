@@ -23,7 +23,7 @@ use Rattle.clk_words.specs.Bounds.{IsGtod, IsRaw, IsOffset, IsClock}
 use Rattle.clk_words.specs.Parts.{gtod_of, raw_of, part_of, put_part, last_from, PartBegins}
 use Rattle.clk_words.specs.Rights.{has_number}
 use Rattle.clk_words.specs.Views.{is_percpu, mode_of, settled}
-use Rattle.clk_words.specs.Knowing.{IsGood}
+use Rattle.clk_words.specs.Knowing.{IsGood, HoldsInRange}
 
 -- the view has seen more, and nothing else has changed
 pub record Looks (v w : View) : Type 0 where
@@ -228,13 +228,14 @@ pub record StoredOffset (turn : Turn Step) (before : Me Step View) (found : ℕ)
   pub word_is : IsBitsOf value turn.first
   pub is : after ≡ (offset_put value before.0, before.1)
 
--- a store to a stamp word
+-- the watchdog's store to a stamp word; the offset that its seat holds is in range
 pub record Cloned (turn : Turn Step) (before : Me Step View) (found : ℕ) (after : Me Step View) : Type 0 where
   pub value : ℤ
   pub word_is : IsBitsOf value turn.first
   pub register : ℕ
   pub place_is : turn.word ≡ before.0.start.cpus + register
   pub is : after ≡ (pair_cloned register value before.0, before.1)
+  pub holds : HoldsInRange before.0
 
 abbrev pub StoredMode : Turn Step → Me Step View → ℕ → Me Step View → Type 0
 StoredMode turn before found after = after ≡ (published before.0, before.1)

@@ -6,7 +6,7 @@ ghost use Rattle.clk_words.specs.declared.step.Why.TheVariants.{Lift};
 ghost use Rattle.clk_words.specs.Histories.{opens_at};
 ghost use Rattle.clk_words.specs.Bounds.{IsGtod, IsRaw, IsOffset, IsLiftValue};
 ghost use Rattle.clk_words.specs.Parts.{gtod_of, raw_of};
-ghost use Rattle.clk_words.specs.Knowing.{MayDemote, HasCloned, HasLifted};
+ghost use Rattle.clk_words.specs.Knowing.{MayDemote, HoldsInRange, HasCloned, HasLifted};
 ghost use Rattle.clk_words.specs.Told.{offset_put, pair_cloned, published, Lifts};
 ghost use Rattle.clk_words.specs.Held.{place_of};
 ghost use Rattle.clk_words.specs.Calls.{step_of};
@@ -37,7 +37,8 @@ impl Words {
     }
 
     /// Stores the GTOD of CPU `w`, 0 to 2^42 ns, which is of its stamp 0 if the mode becomes per-CPU next. The seat has the
-    /// watchdog's right, and the mode is stable by its view. One store, which takes no memory and does not wait.
+    /// watchdog's right, and the mode is stable by its view; so the offset that it holds, the opening's or its last, is in
+    /// the range that `publish_offset` asks for. One store, which takes no memory and does not wait.
     pub fn clone_gtod(&self, seat: &mut Seat, w: u32, value: i64)
         requires own { place_of seat.old ≡ self.now }
         requires may { MayDemote seat.old.view }
@@ -45,6 +46,7 @@ impl Words {
         requires bound { IsGtod value }
         ensures own { place_of seat.new ≡ self.now }
         ensures cloned { seat.new.view ≡ pair_cloned (gtod_of w) value seat.old.view }
+        ensures holds { HoldsInRange seat.old.view }
     {
         let word = self.gtod_word(w);
         let new = bits_of(value);
@@ -54,7 +56,8 @@ impl Words {
     }
 
     /// Stores the raw value of CPU `w`, within 2^59 ns of the words' opening by the sign of the difference. The seat has
-    /// the watchdog's right, and the mode is stable by its view. One store, which takes no memory and does not wait.
+    /// the watchdog's right, and the mode is stable by its view; so the offset that it holds, the opening's or its last, is
+    /// in the range that `publish_offset` asks for. One store, which takes no memory and does not wait.
     pub fn clone_raw(&self, seat: &mut Seat, w: u32, value: i64)
         requires own { place_of seat.old ≡ self.now }
         requires may { MayDemote seat.old.view }
@@ -62,6 +65,7 @@ impl Words {
         requires bound { IsRaw (opens_at self.now.start) value }
         ensures own { place_of seat.new ≡ self.now }
         ensures cloned { seat.new.view ≡ pair_cloned (raw_of w) value seat.old.view }
+        ensures holds { HoldsInRange seat.old.view }
     {
         let word = self.raw_word(w);
         let new = bits_of(value);

@@ -7,13 +7,17 @@ pub mod RunBrought
 pub mod RunFirst
 pub mod RunHistory
 pub mod RunKeeping
+pub mod RunLifted
+pub mod RunLifts
 pub mod RunModes
 pub mod RunNamed
 pub mod RunOnce
 pub mod RunOrders
 pub mod RunPairs
+pub mod RunParts
 pub mod RunReadings
 pub mod RunSeen
 pub mod RunStamps
 pub mod RunSteps
 pub mod RunThread
+pub mod RunTurning

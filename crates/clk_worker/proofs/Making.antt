@@ -13,7 +13,6 @@ use Rattle.clk_machine.specs.Limits.{IsInRange, IsOfReader}
 use Rattle.clk_machine.specs.Tickets.{tickets_of}
 use Rattle.clk_machine.specs.declared.script.Word.{Word}
 use Rattle.clk_machine.specs.declared.script.Word.TheVariants as word
-use Rattle.clk_words.specs.declared.opening.Start.{Start}
 use Rattle.clk_words.specs.Held.{Held, place_of}
 use Rattle.clk_words.specs.Kinds.{cpu_of}
 use Rattle.clk_words.specs.Knowing.{IsReading}
@@ -38,7 +37,6 @@ use Rattle.clk_worker.proofs.Sounding.{OwnsLatch}
 pub serves_after : (share : ℕ) (v u : Context) → Serves share v → Keeps (λ l s. s.latch ≡ l) (λ s. s.epoch) v u → IsSound (site_of v) share (known u) → Serves share u
 serves_after share v u r k sound =
     record {
-      percpu = ap (λ (s : Start). s.opening.mode) k.role.seat.start_is ∙ r.percpu;
       usable = k.usable;
       sound = subst (λ (z : Site). IsSound z share (known u)) (sym k.site) sound;
     }

@@ -1,10 +1,11 @@
--- The tickets of a run: its time seat gains the blocks of its events; a coupling draws none.
+-- The tickets of a run: its time seat gains the blocks of its events; a coupling and a tick of the stable clock draw none.
 use Rattle.std.proofs.Common.{◌≡◌, List, [], ◌∷◌, ◌++◌, ap, ◌∙◌, sym, append_assoc, append-nil}
 use Rattle.std.specs.List.{flat_map}
 use Rattle.clk_base.specs.declared.block.Block.{Block}
 use Rattle.clk_ticket.specs.Time.{Time}
 use Rattle.clk_local.specs.Context.{Site, Known}
-use Rattle.clk_trace.specs.TicketOrder.{one, blocks_of, blocks_of_kind}
+use Rattle.clk_trace.specs.Checks.{one}
+use Rattle.clk_trace.specs.TicketOrder.{blocks_of, blocks_of_kind}
 use Rattle.clk_trace.specs.declared.event.Event.{Event}
 use Rattle.clk_trace.specs.declared.event.EventKind.{EventKind}
 use Rattle.clk_trace.specs.declared.event.EventKind.TheVariants.{Stable, Local, Couple, Stamp, Nothing, Update, Pause}
@@ -12,13 +13,13 @@ use Rattle.clk_worker.specs.Running.{Shows, Runs, at_call}
 
 -- one event
 shows_blocks : (z : Site) (v : Known) (k : EventKind) (w : Known) → Shows z v k w → w.time.blocks ≡ v.time.blocks ++ blocks_of_kind k
-shows_blocks z v (Stable raw value) w h = absurd h
+shows_blocks z v (Stable raw value) w h = ap (λ (t : Time). t.blocks) h.stable.reads.draws.is
 shows_blocks z v (Local raw tick_raw tick_gtod offset old new) w h = ap (λ (t : Time). t.blocks) h.raised.reads.draws.is
 shows_blocks z v (Couple asked own other word old new) w h = ap (λ (t : Time). t.blocks) h.coupled.time_is ∙ sym (append-nil v.time.blocks)
 shows_blocks z v (Stamp gtod_ticket gtod raw) w h =
-    ap (λ (t : Time). t.blocks) h.reads.draws.is ∙ ap (λ (t : Time). t.blocks ++ one raw.ticket ∷ []) h.draws.is
+    ap (λ (t : Time). t.blocks) h.stamps.reads.draws.is ∙ ap (λ (t : Time). t.blocks ++ one raw.ticket ∷ []) h.stamps.draws.is
     ∙ append_assoc v.time.blocks (one gtod_ticket ∷ []) (one raw.ticket ∷ [])
-shows_blocks z v Nothing w h = absurd h
+shows_blocks z v Nothing w h = ap (λ (x : Known). x.time.blocks) h.same ∙ sym (append-nil v.time.blocks)
 shows_blocks z v (Update p) w h = ap (λ (t : Time). t.blocks) h.draws.is
 shows_blocks z v (Pause ticket count) w h = ap (λ (t : Time). t.blocks) h.draws.is
 

@@ -1,7 +1,6 @@
 -- What no event of a run changes: the seat at the clock words shows the same number and kind, and belongs to the same words;
 -- and what only grows: its own steps, and the history that it has seen.
 use Rattle.std.proofs.Common.{◌≡◌, ℕ, ℤ, List, [], ◌∷◌, ◌++◌, ap, ◌∙◌, sym, subst, append_assoc}
-use Rattle.clk_words.specs.declared.opening.Mode.TheVariants.{PerCpu}
 use Rattle.clk_words.specs.declared.opening.Start.{Start}
 use Rattle.clk_words.specs.declared.kind.SeatKind.{SeatKind}
 use Rattle.clk_words.specs.declared.step.Step.{Step}
@@ -45,12 +44,12 @@ pub loads_fixed : (v w : View) (cpu asked : ℕ) (own other : ℤ) → LoadsBoth
 loads_fixed v w cpu asked own other h = ap fixed h.second.view_is ∙ ap fixed h.first.view_is
 
 pub shows_fixed : (z : Site) (v : Known) (k : EventKind) (w : Known) → Shows z v k w → fixed w.view ≡ fixed v.view
-shows_fixed z v (Stable raw value) w h = absurd h
+shows_fixed z v (Stable raw value) w h = ap fixed h.stable.view_is
 shows_fixed z v (Local raw tick_raw tick_gtod offset old new) w h = ap fixed h.raised.raises.makes.view_is ∙ offset_fixed z v w raw h.step h.raised
 shows_fixed z v (Couple asked own other word old new) w h =
     ap fixed h.coupled.raises.makes.view_is ∙ loads_fixed v.view h.coupled.loaded z.cpu asked own other h.coupled.loads
-shows_fixed z v (Stamp gtod_ticket gtod raw) w h = ap fixed h.view_is
-shows_fixed z v Nothing w h = absurd h
+shows_fixed z v (Stamp gtod_ticket gtod raw) w h = ap fixed h.stamps.view_is
+shows_fixed z v Nothing w h = ap (λ (x : Known). fixed x.view) h.same
 shows_fixed z v (Update p) w h = ap fixed h.view_is
 shows_fixed z v (Pause ticket count) w h = ap fixed h.view_is
 
@@ -63,9 +62,8 @@ runs_fixed z v (e ∷ es) w r = runs_fixed z r.1 es w r.4 ∙ shows_fixed (at_ca
 
 -- ---- whose seat it is
 
--- a seat on this CPU, under this number, of words that began per-CPU
+-- a seat on this CPU, under this number, of words that began so
 pub record IsHome (cpu : ℕ) (start : Start) (number : ℕ) (v : View) : Type 0 where
-  pub percpu : start.opening.mode ≡ PerCpu
   pub start_is : v.start ≡ start
   pub number_is : v.number ≡ number
   pub cpu_is : cpu_of v.kind ≡ cpu
@@ -73,7 +71,6 @@ pub record IsHome (cpu : ℕ) (start : Start) (number : ℕ) (v : View) : Type 0
 pub home_stays : (cpu : ℕ) (start : Start) (number : ℕ) (v w : View) → fixed w ≡ fixed v → IsHome cpu start number v → IsHome cpu start number w
 home_stays cpu start number v w same h =
     record {
-      percpu = h.percpu;
       start_is = ap (λ (f : Fixed). f.start) same ∙ h.start_is;
       number_is = ap (λ (f : Fixed). f.number) same ∙ h.number_is;
       cpu_is = ap (λ (f : Fixed). cpu_of f.kind) same ∙ h.cpu_is;
@@ -110,15 +107,16 @@ pub step_seen : (v w : View) (s : Step) → (h : Raises v s w) → w.seen ≡ v.
 step_seen v w s h = ap (λ (u : View). u.seen) h.makes.view_is ∙ append_assoc v.seen h.makes.between (s ∷ [])
 
 pub shows_grows : (z : Site) (v : Known) (k : EventKind) (w : Known) → Shows z v k w → Grows v.view w.view
-shows_grows z v (Stable raw value) w h = absurd h
+shows_grows z v (Stable raw value) w h =
+    grows_same v.view w.view (ap (λ (x : View). x.mine) h.stable.view_is) (ap (λ (x : View). x.seen) h.stable.view_is)
 shows_grows z v (Local raw tick_raw tick_gtod offset old new) w h =
     grows_by v.view w.view (h.step ∷ []) (h.raised.raises.makes.between ++ h.step ∷ []) h.raised.mine_is
     (h.raised.seen_is ∙ append_assoc v.view.seen h.raised.raises.makes.between (h.step ∷ []))
 shows_grows z v (Couple asked own other word old new) w h =
     grows_by v.view w.view (h.step ∷ []) _ h.coupled.mine_is (h.coupled.seen_is ∙ append_assoc v.view.seen _ (h.step ∷ []))
 shows_grows z v (Stamp gtod_ticket gtod raw) w h =
-    grows_same v.view w.view (ap (λ (x : View). x.mine) h.view_is) (ap (λ (x : View). x.seen) h.view_is)
-shows_grows z v Nothing w h = absurd h
+    grows_same v.view w.view (ap (λ (x : View). x.mine) h.stamps.view_is) (ap (λ (x : View). x.seen) h.stamps.view_is)
+shows_grows z v Nothing w h = grows_same v.view w.view (ap (λ (x : Known). x.view.mine) h.same) (ap (λ (x : Known). x.view.seen) h.same)
 shows_grows z v (Update p) w h = grows_same v.view w.view (ap (λ (x : View). x.mine) h.view_is) (ap (λ (x : View). x.seen) h.view_is)
 shows_grows z v (Pause ticket count) w h = grows_same v.view w.view (ap (λ (x : View). x.mine) h.view_is) (ap (λ (x : View). x.seen) h.view_is)
 

@@ -49,12 +49,12 @@ NamesIn start history p = NamesHeld start history p.step.why
 shows_named : (z : Site) (start : Start) (number thread part : ℕ) (v : Known) (k : EventKind) (w : Known) (history : List Step) (rest : List Placed)
     → IsHome z.cpu start number v.view → Shows z v k w → Begins w.view.seen history
     → All (NamesIn start history) rest → All (NamesIn start history) (steps_of_kind thread z.cpu z.call part k ++ rest)
-shows_named z start number thread part v (Stable raw value) w history rest home h begins later = absurd h
+shows_named z start number thread part v (Stable raw value) w history rest home h begins later = later
 shows_named z start number thread part v (Local raw tick_raw tick_gtod offset old new) w history rest home h begins later = All-cons (NamesIn start history) _ rest tt later
 shows_named z start number thread part v (Couple asked own other word old new) w history rest home h begins later =
     All-cons (NamesIn start history) _ rest (couple_named z start number v w asked own other word old new history home h begins) later
 shows_named z start number thread part v (Stamp gtod_ticket gtod raw) w history rest home h begins later = later
-shows_named z start number thread part v Nothing w history rest home h begins later = absurd h
+shows_named z start number thread part v Nothing w history rest home h begins later = later
 shows_named z start number thread part v (Update p) w history rest home h begins later = later
 shows_named z start number thread part v (Pause ticket count) w history rest home h begins later = later
 

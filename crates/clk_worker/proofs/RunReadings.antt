@@ -36,20 +36,20 @@ looked_owner v w h own = ap (λ (e : Epoch). e.owner) h.epoch_is ∙ own
 
 -- so does an event, which adds the record that it published
 shows_owner : (z : Site) (v : Known) (k : EventKind) (w : Known) → Shows z v k w → IsOwner v → IsOwner w
-shows_owner z v (Stable raw value) w h own = absurd h
+shows_owner z v (Stable raw value) w h own = h.stable.reads.reads.kept.0 ∙ own
 shows_owner z v (Local raw tick_raw tick_gtod offset old new) w h own = h.raised.reads.reads.kept.0 ∙ own
 shows_owner z v (Couple asked mine other word old new) w h own = ap (λ (e : Epoch). e.owner) h.coupled.epoch_is ∙ own
-shows_owner z v (Stamp gtod_ticket gtod raw) w h own = h.reads.reads.kept.0 ∙ own
-shows_owner z v Nothing w h own = absurd h
+shows_owner z v (Stamp gtod_ticket gtod raw) w h own = h.stamps.reads.reads.kept.0 ∙ own
+shows_owner z v Nothing w h own = ap (λ (x : Known). x.epoch.owner) h.same ∙ own
 shows_owner z v (Update p) w h own = ap (λ (e : Epoch). e.owner) h.updates.is ∙ own
 shows_owner z v (Pause ticket count) w h own = ap (λ (e : Epoch). e.owner) h.epoch_is ∙ own
 
 shows_records : (z : Site) (v : Known) (k : EventKind) (w : Known) → Shows z v k w → IsOwner v → records_in w ≡ records_in v ++ update_of_kind k
-shows_records z v (Stable raw value) w h own = absurd h
+shows_records z v (Stable raw value) w h own = h.stable.reads.reads.owner own ∙ sym (append-nil (records_in v))
 shows_records z v (Local raw tick_raw tick_gtod offset old new) w h own = h.raised.reads.reads.owner own ∙ sym (append-nil (records_in v))
 shows_records z v (Couple asked mine other word old new) w h own = ap (λ (e : Epoch). e.records) h.coupled.epoch_is ∙ sym (append-nil (records_in v))
-shows_records z v (Stamp gtod_ticket gtod raw) w h own = h.reads.reads.owner own ∙ sym (append-nil (records_in v))
-shows_records z v Nothing w h own = absurd h
+shows_records z v (Stamp gtod_ticket gtod raw) w h own = h.stamps.reads.reads.owner own ∙ sym (append-nil (records_in v))
+shows_records z v Nothing w h own = ap records_in h.same ∙ sym (append-nil (records_in v))
 shows_records z v (Update p) w h own = ap (λ (e : Epoch). e.records) h.updates.is
 shows_records z v (Pause ticket count) w h own = ap (λ (e : Epoch). e.records) h.epoch_is ∙ sym (append-nil (records_in v))
 
@@ -65,12 +65,12 @@ runs_records z v (e ∷ es) w r own =
 -- ---- any thread's records grow
 
 shows_grown : (z : Site) (v : Known) (k : EventKind) (w : Known) → Shows z v k w → IsPrefix (records_in v) (records_in w)
-shows_grown z v (Stable raw value) w h = absurd h
+shows_grown z v (Stable raw value) w h = h.stable.reads.reads.seen
 shows_grown z v (Local raw tick_raw tick_gtod offset old new) w h = h.raised.reads.reads.seen
 shows_grown z v (Couple asked own other word old new) w h =
     subst (λ (x : Epoch). IsPrefix (records_in v) x.records) (sym h.coupled.epoch_is) (prefix_self (records_in v))
-shows_grown z v (Stamp gtod_ticket gtod raw) w h = h.reads.reads.seen
-shows_grown z v Nothing w h = absurd h
+shows_grown z v (Stamp gtod_ticket gtod raw) w h = h.stamps.reads.reads.seen
+shows_grown z v Nothing w h = subst (λ (x : Known). IsPrefix (records_in v) (records_in x)) (sym h.same) (prefix_self (records_in v))
 shows_grown z v (Update p) w h = (p ∷ [], sym (ap (λ (x : Epoch). x.records) h.updates.is))
 shows_grown z v (Pause ticket count) w h = subst (λ (x : Epoch). IsPrefix (records_in v) x.records) (sym h.epoch_is) (prefix_self (records_in v))
 
@@ -82,11 +82,11 @@ runs_grown z v (e ∷ es) w r =
 
 -- a reading is right by the records that its seat has then, and by more of them
 shows_right : (z : Site) (v : Known) (k : EventKind) (w : Known) → Shows z v k w → IsRightKind z.machine z.cpu z.adjust (records_in w) k
-shows_right z v (Stable raw value) w h = absurd h
+shows_right z v (Stable raw value) w h = h.stable.reads.reads.right
 shows_right z v (Local raw tick_raw tick_gtod offset old new) w h = h.raised.reads.reads.right
 shows_right z v (Couple asked own other word old new) w h = tt
-shows_right z v (Stamp gtod_ticket gtod raw) w h = (h.gtod_is, h.reads.reads.right)
-shows_right z v Nothing w h = absurd h
+shows_right z v (Stamp gtod_ticket gtod raw) w h = (h.stamps.gtod_is, h.stamps.reads.reads.right)
+shows_right z v Nothing w h = tt
 shows_right z v (Update p) w h = tt
 shows_right z v (Pause ticket count) w h = tt
 
@@ -110,7 +110,10 @@ runs_right z v (e ∷ es) w r =
 
 shows_later : (z : Site) (v : Known) (k : EventKind) (w : Known) (named : ℕ) → Shows z v k w → named < length (records_in v)
     → NamesLater named k × (named_after named k < length (records_in w))
-shows_later z v (Stable raw value) w named h low = absurd h
+shows_later z v (Stable raw value) w named h low =
+    let grown = prefix_length (records_in v) (records_in w) h.stable.reads.reads.seen in
+    let last = h.stable.reads.reads.last in
+    (omega (arith, low, grown, last), omega (arith, last))
 shows_later z v (Local raw tick_raw tick_gtod offset old new) w named h low =
     let grown = prefix_length (records_in v) (records_in w) h.raised.reads.reads.seen in
     let last = h.raised.reads.reads.last in
@@ -119,10 +122,10 @@ shows_later z v (Couple asked own other word old new) w named h low =
     let grown = prefix_length (records_in v) (records_in w) (shows_grown z v (Couple asked own other word old new) w h) in
     (tt, omega (arith, low, grown))
 shows_later z v (Stamp gtod_ticket gtod raw) w named h low =
-    let grown = prefix_length (records_in v) (records_in w) h.reads.reads.seen in
-    let last = h.reads.reads.last in
+    let grown = prefix_length (records_in v) (records_in w) h.stamps.reads.reads.seen in
+    let last = h.stamps.reads.reads.last in
     (omega (arith, low, grown, last), omega (arith, last))
-shows_later z v Nothing w named h low = absurd h
+shows_later z v Nothing w named h low = (tt, subst (λ (x : Known). named < length (records_in x)) (sym h.same) low)
 shows_later z v (Update p) w named h low =
     let grown = prefix_length (records_in v) (records_in w) (shows_grown z v (Update p) w h) in
     (tt, omega (arith, low, grown))
@@ -150,7 +153,12 @@ ends_same last zero v w same h = record { is = ap (last_of zero) same ∙ h.is; 
 -- one event: it goes by the last record, and leaves a last one
 shows_owned : (z : Site) (v : Known) (k : EventKind) (w : Known) (last : Published) → Shows z v k w → IsOwner v → EndsBy last (record_zero z.machine) v
     → OwnsRecords z.machine z.cpu z.adjust last k × EndsBy (record_after last k) (record_zero z.machine) w
-shows_owned z v (Stable raw value) w last h own ends = absurd h
+shows_owned z v (Stable raw value) w last h own ends =
+    let same = h.stable.reads.reads.owner own in
+    let count = ap length same in
+    let named = h.stable.reads.reads.last in
+    let had = ends.count in
+    (omega (arith, count, named, had), ends_same last (record_zero z.machine) v w same ends)
 shows_owned z v (Local raw tick_raw tick_gtod offset old new) w last h own ends =
     let same = h.raised.reads.reads.owner own in
     let count = ap length same in
@@ -160,12 +168,12 @@ shows_owned z v (Local raw tick_raw tick_gtod offset old new) w last h own ends 
 shows_owned z v (Couple asked mine other word old new) w last h own ends =
     (tt, ends_same last (record_zero z.machine) v w (ap (λ (e : Epoch). e.records) h.coupled.epoch_is) ends)
 shows_owned z v (Stamp gtod_ticket gtod raw) w last h own ends =
-    let same = h.reads.reads.owner own in
+    let same = h.stamps.reads.reads.owner own in
     let count = ap length same in
-    let named = h.reads.reads.last in
+    let named = h.stamps.reads.reads.last in
     let had = ends.count in
     (omega (arith, count, named, had), ends_same last (record_zero z.machine) v w same ends)
-shows_owned z v Nothing w last h own ends = absurd h
+shows_owned z v Nothing w last h own ends = (tt, ends_same last (record_zero z.machine) v w (ap records_in h.same) ends)
 shows_owned z v (Update p) w last h own ends =
     let next : IsNextRecord z.machine z.cpu z.adjust last p = subst (λ x. IsNextRecord z.machine z.cpu z.adjust x p) ends.is h.updates.next in
     let grown : records_in w ≡ records_in v ++ p ∷ [] = ap (λ (e : Epoch). e.records) h.updates.is in

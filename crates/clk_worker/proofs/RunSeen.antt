@@ -1,6 +1,7 @@
--- No reading of a run falls below what its thread had seen: the highest value that was seen of a word is not higher than
--- what the thread's view shows of it.
-use Rattle.std.proofs.Common.{◌≡◌, ℕ, ◌^◌, ◌==◌, ℤ, pos, ◌≤ℤ◌, Bool, true, false, cond, List, [], ◌∷◌, ◌++◌, refl, sym, ap, ◌∙◌, subst, arith, append_assoc, append-nil, eq-eqb, ne_eqb}
+-- No reading of a run falls below what its thread had seen: the highest value that was seen of a word, or where the word stood
+-- at first, is not higher than what the thread's view shows of it. That holds from the thread's first step on, by when it has
+-- seen all lifts.
+use Rattle.std.proofs.Common.{◌≡◌, ℕ, ◌^◌, ◌==◌, ℤ, pos, ◌≤ℤ◌, ◌⊎◌, inl, inr, Bool, true, false, cond, List, [], ◌∷◌, ◌++◌, refl, sym, ap, ◌∙◌, subst, arith, append_assoc, append-nil, eq-eqb, ne_eqb}
 use Rattle.std.proofs.lemmas.Int.{ints}
 use Rattle.std.proofs.lemmas.Grind.{flat_map-append}
 use Rattle.std.proofs.lemmas.List.Sums.{fold-append}
@@ -13,20 +14,23 @@ use Rattle.clk_words.specs.declared.step.Step.{Step}
 use Rattle.clk_words.specs.declared.view.View.{View}
 use Rattle.clk_words.specs.Bounds.{IsClock}
 use Rattle.clk_words.specs.Fronts.{Begins}
-use Rattle.clk_words.specs.Histories.{opens_at, value_after, HadValue, AllFollow, IsGlobalHistory}
+use Rattle.clk_words.specs.Histories.{opens_at, value_after, is_lift, HadValue, AllFollow, IsGlobalHistory}
 use Rattle.clk_words.specs.Heights.{height}
 use Rattle.clk_words.specs.Told.{Raises}
-use Rattle.clk_words.proofs.Fronts.{begins_through}
+use Rattle.clk_words.proofs.Fronts.{begins_self, begins_through}
 use Rattle.clk_words.proofs.Replay.{value_here, follow_back, legal_front, legal_range, rises, had_here, had_later, had_below}
 use Rattle.clk_machine.specs.declared.reading.RawReading.{RawReading}
 use Rattle.clk_local.specs.Context.{Site, Known}
 use Rattle.clk_local.specs.Raising.{shown_on}
+use Rattle.clk_local.specs.Shows.{ShowsRaised}
 use Rattle.clk_trace.specs.SeenBefore.{Seen, seen_at, higher, seen_of, shown_by_kind, IsAboveSeen, NeverFalls}
 use Rattle.clk_trace.specs.declared.event.Event.{Event}
 use Rattle.clk_trace.specs.declared.event.EventKind.{EventKind}
 use Rattle.clk_trace.specs.declared.event.EventKind.TheVariants.{Stable, Local, Couple, Stamp, Nothing, Update, Pause}
 use Rattle.clk_worker.specs.Running.{Shows, ShowsLocal, ShowsCouple, Runs, at_call}
-use Rattle.clk_worker.proofs.RunKeeping.{Fixed, IsHome, home_stays, home_looked, home_next, offset_fixed, shows_fixed, shows_grows, step_seen}
+use Rattle.clk_worker.proofs.RunKeeping.{Fixed, IsHome, home_stays, home_looked, home_next, offset_fixed, shows_fixed, shows_grows, step_seen, runs_grows}
+use Rattle.clk_worker.proofs.RunLifted.{StoodAt, stood_had, stood_passed, stood_before}
+use Rattle.clk_worker.proofs.Showing.{raised_passed}
 
 -- ---- one word
 
@@ -59,14 +63,18 @@ abbrev pub SeesAll : Start → (ℕ → ℤ) → List Seen → List Step → Typ
 SeesAll start base seen history =
     (word : ℕ) → Sees (opens_at start) (seen_of (opens_at start) base word seen) (value_after (opens_at start) word history)
 
--- at first nothing but the opening was seen
-pub sees_first : (start : Start) (base : ℕ → ℤ) (history : List Step) → ((w : ℕ) → base w ≡ opens_at start) → IsGlobalHistory start history
-    → SeesAll start base [] history
-sees_first start base history opens legal word =
-    let (_, low, high) = legal_range start history legal word in
-    let none = above_same (opens_at start) in
-    subst (λ x. Sees (opens_at start) x (value_after (opens_at start) word history)) (sym (opens word))
-    (record { low = omega (arith, ints, none); under = omega (arith, ints, none); high = high })
+-- a value that the word held
+held_low : (start : Start) (history : List Step) (word : ℕ) (x : ℤ) → IsGlobalHistory start history → HadValue start history word x → pos 0 ≤ℤ above x (opens_at start)
+held_low start history word x legal had =
+    let front = legal_front start had.front history (record { rest = had.back; is = had.history_is }) legal in
+    subst (λ y. pos 0 ≤ℤ above y (opens_at start)) had.value_is (legal_range start had.front front word).1
+
+-- before anything was seen the words are where they stood or higher
+sees_first : (start : Start) (base : ℕ → ℤ) (history : List Step) → IsGlobalHistory start history → StoodAt start history base → SeesAll start base [] history
+sees_first start base history legal stood word =
+    let had = stood_had start history base word stood in
+    let range = legal_range start history legal word in
+    record { low = held_low start history word (base word) legal had; under = had_below start history word (base word) legal had; high = range.2 }
 
 le_after : (x y z : ℤ) → x ≤ℤ y → y ≤ℤ z → x ≤ℤ z
 le_after x y z p q = omega (arith, ints)
@@ -83,6 +91,16 @@ sees_later start base seen front history begins legal all word =
     (rises start front begins.rest word more (legal_range start front (legal_front start front history begins legal))) in
     let range = legal_range start history legal word in
     record { low = s.low; under = le_after (above (seen_of o base word seen) o) (above (value_after o word front) o) (above (value_after o word history) o) s.under up; high = range.2 }
+
+-- a thread that has seen nothing yet has not seen all lifts either; from its first step on its view shows what was seen
+abbrev pub MaySee : Start → (ℕ → ℤ) → List Seen → List Step → Type 0
+MaySee start base seen history = (seen ≡ []) ⊎ SeesAll start base seen history
+
+sees_now : (start : Start) (base : ℕ → ℤ) (seen : List Seen) (front history : List Step) → Begins front history → IsGlobalHistory start history
+    → StoodAt start history base → MaySee start base seen front → SeesAll start base seen history
+sees_now start base seen front history begins legal stood (inl nothing) =
+    subst (λ (xs : List Seen). SeesAll start base xs history) (sym nothing) (sees_first start base history legal stood)
+sees_now start base seen front history begins legal stood (inr all) = sees_later start base seen front history begins legal all
 
 -- one value of the word w more was seen
 fold_by : (t : Bool) (f : ℤ → ℤ → ℤ) (x y : ℤ) → fold f y (cond t (x ∷ []) []) ≡ cond t (f y x) y
@@ -104,9 +122,7 @@ sees_added start base seen history w x legal had all word =
     o = opens_at start
 
     low : pos 0 ≤ℤ above x o
-    low =
-        let front = legal_front start had.front history (record { rest = had.back; is = had.history_is }) legal in
-        subst (λ y. pos 0 ≤ℤ above y o) had.value_is (legal_range start had.front front w).1
+    low = held_low start history w x legal had
 
     by_word : Dec (w ≡ word) → Sees o (cond (w == word) (higher o (seen_of o base word seen) x) (seen_of o base word seen)) (value_after o word history)
     by_word (yes e) =
@@ -143,20 +159,50 @@ seen_on z start number base seen v k w home h good all =
     let legal : IsGlobalHistory start w.view.seen = subst (λ (o : Start). IsGlobalHistory o w.view.seen) after.start_is good in
     (legal, sees_later start base seen v.view.seen w.view.seen (shows_grows z v k w h).seen legal all)
 
--- a local reading
-local_seen : (z : Site) (start : Start) (number : ℕ) (base : ℕ → ℤ) (seen : List Seen) (v w : Known) (raw : RawReading) (tick_raw tick_gtod offset old new : ℤ)
-    → IsHome z.cpu start number v.view → ShowsLocal z v raw tick_raw tick_gtod offset old new w → SeesAll start base seen v.view.seen
-    → IsAboveSeen (opens_at start) base z.cpu seen (Local raw tick_raw tick_gtod offset old new) × SeesAll start base (seen ++ seen_at z.cpu new ∷ []) w.view.seen
-local_seen z start number base seen v w raw tick_raw tick_gtod offset old new home h all =
+-- the word is not below itself, and so not below what was seen of it
+sees_word : (start : Start) (base : ℕ → ℤ) (seen : List Seen) (history : List Step) (word : ℕ) (x : ℤ) → IsGlobalHistory start history → SeesAll start base seen history
+    → x ≡ value_after (opens_at start) word history → IsNotBelow x (seen_of (opens_at start) base word seen)
+sees_word start base seen history word x legal all is =
     let o = opens_at start in
-    let later = seen_on z start number base seen v (Local raw tick_raw tick_gtod offset old new) w home h h.raised.raises.makes.good.legal all in
+    let value : ℤ = value_after o word history in
+    let same = above_same value in
+    subst (λ y. IsNotBelow y (seen_of o base word seen)) (sym is)
+    (sees_over o (seen_of o base word seen) value value (all word) (legal_range start history legal word) (omega (arith, ints, same)))
+
+-- what a reading had loaded before its step is the history that its view showed
+loaded_seen : (z : Site) (v w : Known) (raw : RawReading) (step : Step) → (h : ShowsRaised z v raw step w) → h.loaded.seen ≡ v.view.seen
+loaded_seen z v w raw step h =
+    ap (λ (u : View). u.seen) h.finds_offset.view_is ∙ ap (λ (u : View). u.seen) h.finds.second.finds.view_is ∙ ap (λ (u : View). u.seen) h.finds.first.finds.view_is
+
+-- a local reading: it found what the word held after all lifts
+local_seen : (z : Site) (start : Start) (number : ℕ) (base : ℕ → ℤ) (seen : List Seen) (v w : Known) (raw : RawReading) (tick_raw tick_gtod offset old new : ℤ)
+    → IsHome z.cpu start number v.view → ShowsLocal z v raw tick_raw tick_gtod offset old new w → StoodAt start w.view.seen base → MaySee start base seen v.view.seen
+    → IsAboveSeen (opens_at start) base z.cpu seen (Local raw tick_raw tick_gtod offset old new) × SeesAll start base (seen ++ seen_at z.cpu new ∷ []) w.view.seen
+local_seen z start number base seen v w raw tick_raw tick_gtod offset old new home h stood may =
+    let o = opens_at start in
+    let between : List Step = h.raised.raises.makes.between in
+    let mid : List Step = v.view.seen ++ between in
+    let whole : w.view.seen ≡ mid ++ h.step ∷ [] = h.raised.seen_is in
+    let after = home_stays z.cpu start number v.view w.view (shows_fixed z v (Local raw tick_raw tick_gtod offset old new) w h) home in
+    let legal : IsGlobalHistory start w.view.seen = subst (λ (x : Start). IsGlobalHistory x w.view.seen) after.start_is h.raised.raises.makes.good.legal in
+    let to_end : Begins mid w.view.seen = record { rest = h.step ∷ []; is = whole } in
+    let legal_mid : IsGlobalHistory start mid = legal_front start mid w.view.seen to_end legal in
+    let other : is_lift h.step.why ≡ false = ap is_lift h.why_is in
+    let stood_mid : StoodAt start mid base = stood_before start mid h.step base other (subst (λ (zs : List Step). StoodAt start zs base) whole stood) in
+    let all : SeesAll start base seen mid = sees_now start base seen v.view.seen mid (record { rest = between; is = refl }) legal_mid stood_mid may in
     let loaded_start : h.raised.loaded.start ≡ start = ap (λ (f : Fixed). f.start) (offset_fixed z v w raw h.step h.raised) ∙ home.start_is in
-    let over : IsNotBelow h.step.old (seen_of o base z.cpu seen) =
-    over_seen start base seen h.raised.loaded v.view z.cpu h.step.old loaded_start home.start_is all h.raised.raises.range h.raised.not_below in
     let word_is : h.step.word ≡ z.cpu = ap (λ (s : Step). s.word) h.raised.step_is ∙ home.cpu_is in
+    let held : h.step.old ≡ value_after o z.cpu mid =
+    h.raised.raises.old_is
+    ∙ ap (λ (x : Start). value_after (opens_at x) h.step.word (h.raised.loaded.seen ++ between)) loaded_start
+    ∙ ap (λ k. value_after o k (h.raised.loaded.seen ++ between)) word_is
+    ∙ ap (λ (zs : List Step). value_after o z.cpu (zs ++ between)) (loaded_seen z v w raw h.step h.raised) in
+    let over : IsNotBelow h.step.old (seen_of o base z.cpu seen) = sees_word start base seen mid z.cpu h.step.old legal_mid all held in
     let had : HadValue start w.view.seen z.cpu new =
-    subst (λ k. HadValue start w.view.seen k new) word_is (subst (HadValue start w.view.seen h.step.word) h.new_is (step_shown start h.raised.loaded w.view h.step h.raised.raises)) in
-    (subst (λ x. IsNotBelow x (seen_of o base z.cpu seen)) h.old_is over, sees_added start base seen w.view.seen z.cpu new later.0 had later.1)
+    subst (λ k. HadValue start w.view.seen k new) word_is (subst (HadValue start w.view.seen h.step.word) h.new_is (step_shown start h.raised.loaded w.view h.step h.raised.raises)) in (
+      subst (λ x. IsNotBelow x (seen_of o base z.cpu seen)) h.old_is over,
+      sees_added start base seen w.view.seen z.cpu new legal had (sees_later start base seen mid w.view.seen to_end legal all),
+    )
 
 -- a coupling: the values that were loaded, and that of the step
 couple_seen : (z : Site) (start : Start) (number : ℕ) (base : ℕ → ℤ) (seen : List Seen) (v w : Known) (asked : ℕ) (own other : ℤ) (word : ℕ) (old new : ℤ)
@@ -193,30 +239,61 @@ couple_seen z start number base seen v w asked own other word old new home h all
     ((one, two), subst (λ (xs : List Seen). SeesAll start base xs history) same all_three)
 
 -- where nothing was seen
-sees_same : (start : Start) (base : ℕ → ℤ) (seen : List Seen) (v w : View) → w.seen ≡ v.seen → SeesAll start base seen v.seen → SeesAll start base (seen ++ []) w.seen
-sees_same start base seen v w same all =
-    subst (λ (xs : List Seen). SeesAll start base xs w.seen) (sym (append-nil seen)) (subst (SeesAll start base seen) (sym same) all)
+sees_same : (start : Start) (base : ℕ → ℤ) (seen : List Seen) (v w : View) → w.seen ≡ v.seen → MaySee start base seen v.seen → MaySee start base (seen ++ []) w.seen
+sees_same start base seen v w same may =
+    subst (λ (xs : List Seen). MaySee start base xs w.seen) (sym (append-nil seen)) (subst (MaySee start base seen) (sym same) may)
 
-shows_seen : (z : Site) (start : Start) (number : ℕ) (base : ℕ → ℤ) (seen : List Seen) (v : Known) (k : EventKind) (w : Known) → IsHome z.cpu start number v.view
-    → Shows z v k w → SeesAll start base seen v.view.seen
-    → IsAboveSeen (opens_at start) base z.cpu seen k × SeesAll start base (seen ++ shown_by_kind z.cpu k) w.view.seen
-shows_seen z start number base seen v (Stable raw value) w home h all = absurd h
-shows_seen z start number base seen v (Local raw tick_raw tick_gtod offset old new) w home h all =
-    local_seen z start number base seen v w raw tick_raw tick_gtod offset old new home h all
-shows_seen z start number base seen v (Couple asked own other word old new) w home h all =
-    couple_seen z start number base seen v w asked own other word old new home h all
-shows_seen z start number base seen v (Stamp gtod_ticket gtod raw) w home h all =
-    (tt, sees_same start base seen v.view w.view (ap (λ (x : View). x.seen) h.view_is) all)
-shows_seen z start number base seen v Nothing w home h all = absurd h
-shows_seen z start number base seen v (Update p) w home h all = (tt, sees_same start base seen v.view w.view (ap (λ (x : View). x.seen) h.view_is) all)
-shows_seen z start number base seen v (Pause ticket count) w home h all = (tt, sees_same start base seen v.view w.view (ap (λ (x : View). x.seen) h.view_is) all)
+-- a history that the thread's begins, in which the words stood so
+record Onward (start : Start) (base : ℕ → ℤ) (history : List Step) (w : View) : Type 0 where
+  begins : Begins w.seen history
+  legal : IsGlobalHistory start history
+  stood : StoodAt start history base
+
+shows_seen : (z : Site) (start : Start) (number : ℕ) (base : ℕ → ℤ) (history : List Step) (seen : List Seen) (v : Known) (k : EventKind) (w : Known)
+    → IsHome z.cpu start number v.view → Shows z v k w → Onward start base history w.view → MaySee start base seen v.view.seen
+    → IsAboveSeen (opens_at start) base z.cpu seen k × MaySee start base (seen ++ shown_by_kind z.cpu k) w.view.seen
+shows_seen z start number base history seen v (Stable raw value) w home h on may =
+    (tt, sees_same start base seen v.view w.view (ap (λ (x : View). x.seen) h.stable.view_is) may)
+shows_seen z start number base history seen v (Local raw tick_raw tick_gtod offset old new) w home h on may =
+    let stood = stood_passed start w.view.seen history base on.legal on.begins (raised_passed z v w raw h.step h.raised) on.stood in
+    let here = local_seen z start number base seen v w raw tick_raw tick_gtod offset old new home h stood may in
+    (here.0, inr here.1)
+shows_seen z start number base history seen v (Couple asked own other word old new) w home h on may =
+    let grown : Begins v.view.seen w.view.seen = (shows_grows z v (Couple asked own other word old new) w h).seen in
+    let begins = begins_through v.view.seen w.view.seen history grown on.begins in
+    let stood = stood_passed start v.view.seen history base on.legal begins h.passed on.stood in
+    let legal = legal_front start v.view.seen history begins on.legal in
+    let all = sees_now start base seen v.view.seen v.view.seen (begins_self v.view.seen) legal stood may in
+    let here = couple_seen z start number base seen v w asked own other word old new home h all in
+    (here.0, inr here.1)
+shows_seen z start number base history seen v (Stamp gtod_ticket gtod raw) w home h on may =
+    (tt, sees_same start base seen v.view w.view (ap (λ (x : View). x.seen) h.stamps.view_is) may)
+shows_seen z start number base history seen v Nothing w home h on may =
+    (tt, sees_same start base seen v.view w.view (ap (λ (x : Known). x.view.seen) h.same) may)
+shows_seen z start number base history seen v (Update p) w home h on may =
+    (tt, sees_same start base seen v.view w.view (ap (λ (x : View). x.seen) h.view_is) may)
+shows_seen z start number base history seen v (Pause ticket count) w home h on may =
+    (tt, sees_same start base seen v.view w.view (ap (λ (x : View). x.seen) h.view_is) may)
 
 -- ---- all events
 
-pub never_falls : (z : Site) (start : Start) (number : ℕ) (base : ℕ → ℤ) (seen : List Seen) (v : Known) (es : List Event) (w : Known) → IsHome z.cpu start number v.view
-    → Runs z v es w → SeesAll start base seen v.view.seen → NeverFalls (opens_at start) base z.cpu seen es
-never_falls z start number base seen v [] w home r all = tt
-never_falls z start number base seen v (e ∷ es) w home r all =
-    let looked : SeesAll start base seen r.0.view.seen = subst (SeesAll start base seen) (sym (ap (λ (x : View). x.seen) r.2.view_is)) all in
-    let here = shows_seen (at_call z e.call) start number base seen r.0 e.kind r.1 (home_looked z.cpu start number v r.0 r.2 home) r.3 looked in
-    (here.0, never_falls z start number base (seen ++ shown_by_kind z.cpu e.kind) r.1 es w (home_next z start number v e es w r home) r.4 here.1)
+falls_never : (z : Site) (start : Start) (number : ℕ) (base : ℕ → ℤ) (history : List Step) (seen : List Seen) (v : Known) (es : List Event) (w : Known)
+    → IsHome z.cpu start number v.view → Runs z v es w → Onward start base history w.view → MaySee start base seen v.view.seen
+    → NeverFalls (opens_at start) base z.cpu seen es
+falls_never z start number base history seen v [] w home r on may = tt
+falls_never z start number base history seen v (e ∷ es) w home r on may =
+    let looked : MaySee start base seen r.0.view.seen = subst (MaySee start base seen) (sym (ap (λ (x : View). x.seen) r.2.view_is)) may in
+    let next : Onward start base history r.1.view =
+    record {
+      begins = begins_through r.1.view.seen w.view.seen history (runs_grows z r.1 es w r.4).seen on.begins;
+      legal = on.legal;
+      stood = on.stood;
+    } in
+    let here = shows_seen (at_call z e.call) start number base history seen r.0 e.kind r.1 (home_looked z.cpu start number v r.0 r.2 home) r.3 next looked in
+    (here.0, falls_never z start number base history (seen ++ shown_by_kind z.cpu e.kind) r.1 es w (home_next z start number v e es w r home) r.4 on here.1)
+
+-- by any history that goes on from what the thread saw, where the words stood so in it
+pub never_falls : (z : Site) (start : Start) (number : ℕ) (history : List Step) (base : ℕ → ℤ) (v : Known) (es : List Event) (w : Known) → IsHome z.cpu start number v.view
+    → Runs z v es w → Begins w.view.seen history → IsGlobalHistory start history → StoodAt start history base → NeverFalls (opens_at start) base z.cpu [] es
+never_falls z start number history base v es w home r begins legal stood =
+    falls_never z start number base history [] v es w home r (record { begins = begins; legal = legal; stood = stood }) (inl refl)

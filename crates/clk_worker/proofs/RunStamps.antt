@@ -1,24 +1,22 @@
 -- Each reading of a run names stamps of its CPU that its thread knew then: neither half goes back, and the GTOD is not older
 -- than the raw clock. So the least stamps by which a list of them can be named in order are there.
-use Rattle.std.proofs.Common.{◌≡◌, ◌≢◌, ℕ, ◌+◌, ◌≤◌, max, ℤ, Bool, true, false, cond, ◌⊎◌, inl, inr, List, [], ◌∷◌, ◌++◌, length, map, Option, Some, None, is_some, option_map, option_and_then, refl, ap, ◌∙◌, sym, subst, arith, append_assoc, append-nil, le-leb}
+use Rattle.std.proofs.Common.{◌≡◌, ◌≢◌, ℕ, ◌+◌, ◌≤◌, max, ℤ, Bool, true, false, cond, inr, List, [], ◌∷◌, ◌++◌, length, map, Option, Some, is_some, option_map, option_and_then, refl, ap, ◌∙◌, sym, subst, arith, append_assoc, append-nil, le-leb}
 use Rattle.std.specs.List.{flat_map}
 use Rattle.std.specs.Prelude.{nat_le, unwrap_or, ◌&&◌}
 use Rattle.std.specs.Ordering.{int_eq}
 use Rattle.std.proofs.lemmas.Bool.Decides.{Decides-int_eq}
 use Rattle.std.proofs.lemmas.List.{map-append}
-use mathlib.Core.Logic.{dite}
-use native.Mathlib.Decide.{ℕ_discrete}
 use Rattle.clk_base.specs.Walk.{Along}
 use Rattle.clk_words.specs.declared.opening.Start.{Start}
 use Rattle.clk_words.specs.declared.view.View.{View}
 use Rattle.clk_words.specs.declared.view.PairView.{PairView}
 use Rattle.clk_words.specs.declared.view.Name.{Name}
 use Rattle.clk_words.specs.declared.view.Part.{Part}
-use Rattle.clk_words.specs.Parts.{gtod_of, raw_of, part_of, put_part, last_from, PartBegins}
+use Rattle.clk_words.specs.Parts.{gtod_of, raw_of, part_of, last_from, PartBegins}
 use Rattle.clk_words.specs.Rights.{has_number}
 use Rattle.clk_words.specs.Told.{Finds, FindsRaw, FindsGtod, stamped}
-use Rattle.clk_words.proofs.Fronts.{begins_self, begins_length}
-use Rattle.clk_words.proofs.Registers.{put_here, put_else, part_through}
+use Rattle.clk_words.proofs.Fronts.{begins_length}
+use Rattle.clk_words.proofs.Registers.{put_here, put_else}
 use Rattle.clk_machine.specs.declared.reading.RawReading.{RawReading}
 use Rattle.clk_local.specs.Context.{Site, Known}
 use Rattle.clk_trace.specs.Stamps.{Pair, stamp_of_kind, Numbers, least_from, numbers_of, NamesStamps, numbers_after}
@@ -28,11 +26,12 @@ use Rattle.clk_trace.specs.declared.event.EventKind.TheVariants.{Stable, Local, 
 use Rattle.clk_worker.specs.Running.{Shows, ShowsLocal, Runs, at_call}
 use Rattle.clk_worker.proofs.RunKeeping.{IsHome, home_looked, home_next}
 use Rattle.clk_worker.proofs.RunPairs.{local_names, local_raw, local_gtod}
+use Rattle.clk_worker.proofs.RunParts.{MayHave, may_be, PartsBegin, parts_through, finds_begin, finds_part, finds_other, shows_parts, zero_stays, Lasts, runs_last, offset_lasts}
 
--- what is known of a register begins these values, the first of which is stamp 0's
+-- what is known of a register begins these values, the first of which is stamp 0's if that is known
 pub record BeginsValues (p : Part) (xs : List ℤ) : Type 0 where
   pub stamp : ℤ
-  pub known : p.zero ≡ Some stamp
+  pub known : MayHave p.zero stamp
   pub rest : List ℤ
   pub is : xs ≡ stamp ∷ (p.after ++ rest)
 
@@ -41,85 +40,12 @@ pub record KnowsStamps (cpu : ℕ) (ps : PairView) (stamps : List Pair) : Type 0
   pub raws : BeginsValues (part_of ps.parts (raw_of cpu)) (map (λ s. s.raw) stamps)
   pub gtods : BeginsValues (part_of ps.parts (gtod_of cpu)) (map (λ s. s.gtod) stamps)
 
--- ---- what a thread knows of each register grows
-
-abbrev pub PartsBegin : List Part → List Part → Type 0
-PartsBegin ps qs = (r : ℕ) → PartBegins (part_of ps r) (part_of qs r)
-
-part_self : (p : Part) → PartBegins p p
-part_self p = record { zero_is = inr refl; after = begins_self p.after }
-
-parts_self : (ps qs : List Part) → qs ≡ ps → PartsBegin ps qs
-parts_self ps qs same = subst (PartsBegin ps) (sym same) (λ r. part_self (part_of ps r))
-
-parts_through : (ps qs rs : List Part) → PartsBegin ps qs → PartsBegin qs rs → PartsBegin ps rs
-parts_through ps qs rs p q r = part_through (part_of ps r) (part_of qs r) (part_of rs r) (p r) (q r)
-
-put_begins : (ps : List Part) (r : ℕ) (p : Part) → PartBegins (part_of ps r) p → PartsBegin ps (put_part ps r p)
-put_begins ps r p b k =
-    dite (ℕ_discrete k r)
-    (λ e. subst (λ i. PartBegins (part_of ps i) (part_of (put_part ps r p) i)) (sym e) (subst (PartBegins (part_of ps r)) (sym (put_here ps r p)) b))
-    (λ other. subst (PartBegins (part_of ps k)) (sym (put_else ps r k p other)) (part_self (part_of ps k)))
-
-zero_begins : (o : Option ℤ) (stamp : ℤ) → ((z : ℤ) → o ≡ Some z → stamp ≡ z) → (o ≡ None) ⊎ (o ≡ Some stamp)
-zero_begins None stamp same = inl refl
-zero_begins (Some z) stamp same = inr (ap Some (sym (same z refl)))
-
-finds_begin : (v w : View) (r : ℕ) (name : Name) (x : ℤ) → Finds v r name x w → PartsBegin v.pairs.parts w.pairs.parts
-finds_begin v w r name x f =
-    let p : Part = record { zero = Some f.stamp; after = (part_of v.pairs.parts r).after ++ f.more } in
-    subst (λ (u : View). PartsBegin v.pairs.parts u.pairs.parts) (sym f.view_is)
-    (put_begins v.pairs.parts r p
-    (record { zero_is = zero_begins (part_of v.pairs.parts r).zero f.stamp f.same; after = record { rest = f.more; is = refl } }))
-
-stamped_begin : (v : View) (r : ℕ) (x : ℤ) → PartsBegin v.pairs.parts (stamped r x v).pairs.parts
-stamped_begin v r x =
-    let p : Part = record { zero = (part_of v.pairs.parts r).zero; after = (part_of v.pairs.parts r).after ++ x ∷ [] } in
-    put_begins v.pairs.parts r p (record { zero_is = inr refl; after = record { rest = x ∷ []; is = refl } })
-
--- a local reading and a stamp add to the parts
-local_parts : (z : Site) (v w : Known) (raw : RawReading) (tick_raw tick_gtod offset old new : ℤ) → ShowsLocal z v raw tick_raw tick_gtod offset old new w
-    → PartsBegin v.view.pairs.parts w.view.pairs.parts
-local_parts z v w raw tick_raw tick_gtod offset old new h =
-    let f = h.raised.finds in
-    subst (λ (ps : PairView). PartsBegin v.view.pairs.parts ps.parts) (sym h.raised.pairs_is)
-    (parts_through v.view.pairs.parts f.half.pairs.parts h.raised.pair.pairs.parts
-    (finds_begin v.view f.half _ _ h.raised.tick_raw f.first.finds) (finds_begin f.half h.raised.pair _ _ h.raised.tick_gtod f.second.finds))
-
-shows_parts : (z : Site) (v : Known) (k : EventKind) (w : Known) → Shows z v k w → PartsBegin v.view.pairs.parts w.view.pairs.parts
-shows_parts z v (Stable raw value) w h = absurd h
-shows_parts z v (Local raw tick_raw tick_gtod offset old new) w h = local_parts z v w raw tick_raw tick_gtod offset old new h
-shows_parts z v (Couple asked own other word old new) w h =
-    parts_self v.view.pairs.parts w.view.pairs.parts (ap (λ (ps : PairView). ps.parts) h.coupled.pairs_is)
-shows_parts z v (Stamp gtod_ticket gtod raw) w h =
-    let half : View = stamped (gtod_of z.cpu) gtod v.view in
-    subst (λ (x : View). PartsBegin v.view.pairs.parts x.pairs.parts) (sym h.view_is)
-    (parts_through v.view.pairs.parts half.pairs.parts (stamped (raw_of z.cpu) raw.ns half).pairs.parts
-    (stamped_begin v.view (gtod_of z.cpu) gtod) (stamped_begin half (raw_of z.cpu) raw.ns))
-shows_parts z v Nothing w h = absurd h
-shows_parts z v (Update p) w h = parts_self v.view.pairs.parts w.view.pairs.parts (ap (λ (x : View). x.pairs.parts) h.view_is)
-shows_parts z v (Pause ticket count) w h = parts_self v.view.pairs.parts w.view.pairs.parts (ap (λ (x : View). x.pairs.parts) h.view_is)
-
-pub runs_parts : (z : Site) (v : Known) (es : List Event) (w : Known) → Runs z v es w → PartsBegin v.view.pairs.parts w.view.pairs.parts
-runs_parts z v [] w r = parts_self v.view.pairs.parts w.view.pairs.parts (ap (λ (x : Known). x.view.pairs.parts) (sym r))
-runs_parts z v (e ∷ es) w r =
-    subst (λ (x : View). PartsBegin x.pairs.parts w.view.pairs.parts) r.2.view_is
-    (parts_through r.0.view.pairs.parts r.1.view.pairs.parts w.view.pairs.parts (shows_parts (at_call z e.call) r.0 e.kind r.1 r.3) (runs_parts z r.1 es w r.4))
-
--- stamp 0 stays known
-pub zero_stays : (p q : Part) (x : ℤ) → PartBegins p q → p.zero ≡ Some x → q.zero ≡ Some x
-zero_stays p q x b known = by_zero b.zero_is
-  where
-    by_zero : (p.zero ≡ None) ⊎ (p.zero ≡ q.zero) → q.zero ≡ Some x
-    by_zero (inl none) = absurd (cc)
-    by_zero (inr same) = sym same ∙ known
-
 -- what was known of a register begins what its later part begins
 values_before : (p q : Part) (stamp : ℤ) (xs : List ℤ) → p.zero ≡ Some stamp → PartBegins p q → BeginsValues q xs → BeginsValues p xs
 values_before p q stamp xs zero b k =
     record {
       stamp = k.stamp;
-      known = (let later = zero_stays p q stamp b zero in let known = k.known in cc);
+      known = inr (zero ∙ ap Some (may_be q.zero k.stamp stamp (zero_stays p q stamp b zero) k.known));
       rest = b.after.rest ++ k.rest;
       is = k.is ∙ ap (λ (ys : List ℤ). k.stamp ∷ (ys ++ k.rest)) b.after.is ∙ ap (λ (ys : List ℤ). k.stamp ∷ ys) (append_assoc p.after b.after.rest k.rest);
     }
@@ -156,7 +82,7 @@ least_last x low n stamp (y ∷ after) rest is far =
 part_least : (p : Part) (stamp x : ℤ) (xs : List ℤ) (low : ℕ) → p.zero ≡ Some stamp → last_from stamp p.after ≡ x → BeginsValues p xs → low ≤ length p.after
     → Within (length p.after) (least_from x low 0 xs)
 part_least p stamp x xs low zero last k far =
-    let same : stamp ≡ k.stamp = (let known = k.known in cc) in
+    let same : stamp ≡ k.stamp = may_be p.zero k.stamp stamp zero k.known in
     let is : last_from k.stamp p.after ≡ x = subst (λ s. last_from s p.after ≡ x) same last in
     let count : 0 + length p.after ≡ length p.after = omega arith in
     let found : Within (length p.after) (least_from x low 0 (k.stamp ∷ (p.after ++ k.rest))) =
@@ -206,18 +132,6 @@ known_more cpu ps qs last b known =
     let gtod = known.gtod in
     record { raw = omega (arith, raw, raws); gtod = omega (arith, gtod, gtods) }
 
--- the part of a register that was loaded, and that of another
-finds_part : (v w : View) (r : ℕ) (name : Name) (x : ℤ) → (f : Finds v r name x w)
-    → part_of w.pairs.parts r ≡ record { zero = Some f.stamp; after = (part_of v.pairs.parts r).after ++ f.more }
-finds_part v w r name x f =
-    ap (λ (u : View). part_of u.pairs.parts r) f.view_is
-    ∙ put_here v.pairs.parts r (record { zero = Some f.stamp; after = (part_of v.pairs.parts r).after ++ f.more })
-
-finds_other : (v w : View) (r k : ℕ) (name : Name) (x : ℤ) → Finds v r name x w → k ≢ r → part_of w.pairs.parts k ≡ part_of v.pairs.parts k
-finds_other v w r k name x f other =
-    ap (λ (u : View). part_of u.pairs.parts k) f.view_is
-    ∙ put_else v.pairs.parts r k (record { zero = Some f.stamp; after = (part_of v.pairs.parts r).after ++ f.more }) other
-
 -- what a loaded register's part says
 record Loaded (p : Part) (x : ℤ) : Type 0 where
   stamp : ℤ
@@ -255,139 +169,144 @@ pair_numbers v half pair cpu x y end stamps last first second later knows known 
 
 -- ---- one event, by what its thread knows in the end
 
-local_stamps : (z : Site) (start : Start) (number : ℕ) (v w : Known) (raw : RawReading) (tick_raw tick_gtod offset old new : ℤ) (end : PairView) (stamps : List Pair) (last : Numbers)
-    → IsHome z.cpu start number v.view → ShowsLocal z v raw tick_raw tick_gtod offset old new w
-    → PartsBegin w.view.pairs.parts end.parts → KnowsStamps z.cpu end stamps → AreKnown z.cpu v.view.pairs.parts last
-    → NamesStamps stamps start.opening.offset last (Local raw tick_raw tick_gtod offset old new)
-    × AreKnown z.cpu w.view.pairs.parts (numbers_after stamps last (Local raw tick_raw tick_gtod offset old new))
-local_stamps z start number v w raw tick_raw tick_gtod offset old new end stamps last home h later knows known =
-    let names = local_names z start number v w raw tick_raw tick_gtod offset old new home h in
+-- a list of stamps that begins with what is known then, and an offset that may be the one that is known
+pub record MayName (cpu : ℕ) (end : View) (stamps : List Pair) (offset : ℤ) : Type 0 where
+  pub knows : KnowsStamps cpu end.pairs stamps
+  pub offset_is : MayHave end.modes.offset offset
+
+local_stamps : (z : Site) (start : Start) (number : ℕ) (v w : Known) (raw : RawReading) (tick_raw tick_gtod shown old new : ℤ) (end : View) (stamps : List Pair) (offset : ℤ) (last : Numbers)
+    → IsHome z.cpu start number v.view → ShowsLocal z v raw tick_raw tick_gtod shown old new w
+    → Lasts w.view end → MayName z.cpu end stamps offset → AreKnown z.cpu v.view.pairs.parts last
+    → NamesStamps stamps offset last (Local raw tick_raw tick_gtod shown old new)
+    × AreKnown z.cpu w.view.pairs.parts (numbers_after stamps last (Local raw tick_raw tick_gtod shown old new))
+local_stamps z start number v w raw tick_raw tick_gtod shown old new end stamps offset last home h later may known =
+    let names = local_names z v w raw tick_raw tick_gtod shown old new h in
     let first = local_raw z start number v w raw h.step home h.raised in
     let second = local_gtod z start number v w raw h.step home h.raised in
-    let after : PartsBegin h.raised.pair.pairs.parts end.parts = subst (λ (ps : PairView). PartsBegin ps.parts end.parts) h.raised.pairs_is later in
-    let found = pair_numbers v.view h.raised.finds.half h.raised.pair z.cpu h.raised.tick_raw h.raised.tick_gtod end stamps last first second after knows known in
+    let after : PartsBegin h.raised.pair.pairs.parts end.pairs.parts = subst (λ (ps : PairView). PartsBegin ps.parts end.pairs.parts) h.raised.pairs_is later.parts in
+    let found = pair_numbers v.view h.raised.finds.half h.raised.pair z.cpu h.raised.tick_raw h.raised.tick_gtod end.pairs stamps last first second after may.knows known in
     let is : numbers_of stamps last tick_raw tick_gtod ≡ Some found.numbers =
     ap (λ x. numbers_of stamps last x tick_gtod) names.0 ∙ ap (numbers_of stamps last h.raised.tick_raw) names.1 ∙ found.is in
     let there : AreKnown z.cpu w.view.pairs.parts found.numbers =
     subst (λ (ps : PairView). AreKnown z.cpu ps.parts found.numbers) (sym h.raised.pairs_is) (record { raw = found.raw; gtod = found.gtod }) in
-    ((ap is_some is, names.2), subst (AreKnown z.cpu w.view.pairs.parts) (sym (ap (λ o. unwrap_or o last) is)) there)
+    let same : shown ≡ offset = names.2 ∙ offset_lasts z v w raw h.step offset end h.raised later may.offset_is in
+    ((ap is_some is, same), subst (AreKnown z.cpu w.view.pairs.parts) (sym (ap (λ o. unwrap_or o last) is)) there)
 
-shows_stamps : (z : Site) (start : Start) (number : ℕ) (v : Known) (k : EventKind) (w : Known) (end : PairView) (stamps : List Pair) (last : Numbers)
-    → IsHome z.cpu start number v.view → Shows z v k w → PartsBegin w.view.pairs.parts end.parts → KnowsStamps z.cpu end stamps → AreKnown z.cpu v.view.pairs.parts last
-    → NamesStamps stamps start.opening.offset last k × AreKnown z.cpu w.view.pairs.parts (numbers_after stamps last k)
-shows_stamps z start number v (Stable raw value) w end stamps last home h later knows known = absurd h
-shows_stamps z start number v (Local raw tick_raw tick_gtod offset old new) w end stamps last home h later knows known =
-    local_stamps z start number v w raw tick_raw tick_gtod offset old new end stamps last home h later knows known
-shows_stamps z start number v (Couple asked own other word old new) w end stamps last home h later knows known =
-    (tt, known_more z.cpu v.view.pairs.parts w.view.pairs.parts last (shows_parts z v (Couple asked own other word old new) w h) known)
-shows_stamps z start number v (Stamp gtod_ticket gtod raw) w end stamps last home h later knows known =
-    (tt, known_more z.cpu v.view.pairs.parts w.view.pairs.parts last (shows_parts z v (Stamp gtod_ticket gtod raw) w h) known)
-shows_stamps z start number v Nothing w end stamps last home h later knows known = absurd h
-shows_stamps z start number v (Update p) w end stamps last home h later knows known =
-    (tt, known_more z.cpu v.view.pairs.parts w.view.pairs.parts last (shows_parts z v (Update p) w h) known)
-shows_stamps z start number v (Pause ticket count) w end stamps last home h later knows known =
-    (tt, known_more z.cpu v.view.pairs.parts w.view.pairs.parts last (shows_parts z v (Pause ticket count) w h) known)
+-- an event that names no stamps
+stamps_kept : (z : Site) (v : Known) (k : EventKind) (w : Known) (last : Numbers) → Shows z v k w → AreKnown z.cpu v.view.pairs.parts last
+    → AreKnown z.cpu w.view.pairs.parts last
+stamps_kept z v k w last h known = known_more z.cpu v.view.pairs.parts w.view.pairs.parts last (shows_parts z v k w h) known
+
+shows_stamps : (z : Site) (start : Start) (number : ℕ) (v : Known) (k : EventKind) (w : Known) (end : View) (stamps : List Pair) (offset : ℤ) (last : Numbers)
+    → IsHome z.cpu start number v.view → Shows z v k w → Lasts w.view end → MayName z.cpu end stamps offset → AreKnown z.cpu v.view.pairs.parts last
+    → NamesStamps stamps offset last k × AreKnown z.cpu w.view.pairs.parts (numbers_after stamps last k)
+shows_stamps z start number v (Stable raw value) w end stamps offset last home h later may known = (tt, stamps_kept z v (Stable raw value) w last h known)
+shows_stamps z start number v (Local raw tick_raw tick_gtod shown old new) w end stamps offset last home h later may known =
+    local_stamps z start number v w raw tick_raw tick_gtod shown old new end stamps offset last home h later may known
+shows_stamps z start number v (Couple asked own other word old new) w end stamps offset last home h later may known =
+    (tt, stamps_kept z v (Couple asked own other word old new) w last h known)
+shows_stamps z start number v (Stamp gtod_ticket gtod raw) w end stamps offset last home h later may known =
+    (tt, stamps_kept z v (Stamp gtod_ticket gtod raw) w last h known)
+shows_stamps z start number v Nothing w end stamps offset last home h later may known = (tt, stamps_kept z v Nothing w last h known)
+shows_stamps z start number v (Update p) w end stamps offset last home h later may known = (tt, stamps_kept z v (Update p) w last h known)
+shows_stamps z start number v (Pause ticket count) w end stamps offset last home h later may known = (tt, stamps_kept z v (Pause ticket count) w last h known)
 
 -- ---- all events
 
-pub runs_stamps : (z : Site) (start : Start) (number : ℕ) (v : Known) (es : List Event) (w : Known) (stamps : List Pair) (last : Numbers)
-    → IsHome z.cpu start number v.view → Runs z v es w → KnowsStamps z.cpu w.view.pairs stamps → AreKnown z.cpu v.view.pairs.parts last
-    → Along (λ n e. NamesStamps stamps start.opening.offset n e.kind) (λ n e. numbers_after stamps n e.kind) last es
-runs_stamps z start number v [] w stamps last home r knows known = tt
-runs_stamps z start number v (e ∷ es) w stamps last home r knows known =
+pub runs_stamps : (z : Site) (start : Start) (number : ℕ) (v : Known) (es : List Event) (w : Known) (stamps : List Pair) (offset : ℤ) (last : Numbers)
+    → IsHome z.cpu start number v.view → Runs z v es w → MayName z.cpu w.view stamps offset → AreKnown z.cpu v.view.pairs.parts last
+    → Along (λ n e. NamesStamps stamps offset n e.kind) (λ n e. numbers_after stamps n e.kind) last es
+runs_stamps z start number v [] w stamps offset last home r may known = tt
+runs_stamps z start number v (e ∷ es) w stamps offset last home r may known =
     let looked : AreKnown z.cpu r.0.view.pairs.parts last = subst (λ (x : View). AreKnown z.cpu x.pairs.parts last) (sym r.2.view_is) known in
-    let here = shows_stamps (at_call z e.call) start number r.0 e.kind r.1 w.view.pairs stamps last (home_looked z.cpu start number v r.0 r.2 home) r.3
-    (runs_parts z r.1 es w r.4) knows looked in
-    (here.0, runs_stamps z start number r.1 es w stamps (numbers_after stamps last e.kind) (home_next z start number v e es w r home) r.4 knows here.1)
+    let here = shows_stamps (at_call z e.call) start number r.0 e.kind r.1 w.view stamps offset last (home_looked z.cpu start number v r.0 r.2 home) r.3
+    (runs_last z r.1 es w r.4) may looked in
+    (here.0, runs_stamps z start number r.1 es w stamps offset (numbers_after stamps last e.kind) (home_next z start number v e es w r home) r.4 may here.1)
 
--- ---- an owner knows all stamps: that of the opening, and its own
+-- ---- an owner knows all stamps after stamp 0: its own
 
-pub record HasStamps (cpu : ℕ) (ps : PairView) (opening : Pair) (stamps : List Pair) : Type 0 where
-  pub raws : part_of ps.parts (raw_of cpu) ≡ record { zero = Some opening.raw; after = map (λ (s : Pair). s.raw) stamps }
-  pub gtods : part_of ps.parts (gtod_of cpu) ≡ record { zero = Some opening.gtod; after = map (λ (s : Pair). s.gtod) stamps }
+pub record HasStamps (cpu : ℕ) (ps : PairView) (stamps : List Pair) : Type 0 where
+  pub raws : (part_of ps.parts (raw_of cpu)).after ≡ map (λ (s : Pair). s.raw) stamps
+  pub gtods : (part_of ps.parts (gtod_of cpu)).after ≡ map (λ (s : Pair). s.gtod) stamps
   pub owner : has_number ps.owns cpu ≡ true
 
--- a load that adds nothing leaves the part
-finds_same : (v w : View) (r : ℕ) (name : Name) (x stamp : ℤ) (xs : List ℤ) → (f : Finds v r name x w) → f.more ≡ []
-    → part_of v.pairs.parts r ≡ record { zero = Some stamp; after = xs } → part_of w.pairs.parts r ≡ record { zero = Some stamp; after = xs }
-finds_same v w r name x stamp xs f nothing is =
-    let same : f.stamp ≡ stamp = f.same stamp (ap (λ (p : Part). p.zero) is) in
-    let all : (part_of v.pairs.parts r).after ++ f.more ≡ xs =
-    ap (λ (ys : List ℤ). (part_of v.pairs.parts r).after ++ ys) nothing ∙ append-nil (part_of v.pairs.parts r).after ∙ ap (λ (p : Part). p.after) is in
-    finds_part v w r name x f
-    ∙ ap (λ (y : ℤ). record { zero = Some y; after = (part_of v.pairs.parts r).after ++ f.more }) same
-    ∙ ap (λ (ys : List ℤ). record { zero = Some stamp; after = ys }) all
+-- a load that adds nothing leaves the list
+finds_same : (v w : View) (r : ℕ) (name : Name) (x : ℤ) (xs : List ℤ) → (f : Finds v r name x w) → f.more ≡ []
+    → (part_of v.pairs.parts r).after ≡ xs → (part_of w.pairs.parts r).after ≡ xs
+finds_same v w r name x xs f nothing is =
+    ap (λ (p : Part). p.after) (finds_part v w r name x f)
+    ∙ ap (λ (ys : List ℤ). (part_of v.pairs.parts r).after ++ ys) nothing
+    ∙ append-nil (part_of v.pairs.parts r).after
+    ∙ is
 
-local_whole : (z : Site) (start : Start) (number : ℕ) (v w : Known) (raw : RawReading) (tick_raw tick_gtod offset old new : ℤ) (opening : Pair) (stamps : List Pair)
+local_whole : (z : Site) (start : Start) (number : ℕ) (v w : Known) (raw : RawReading) (tick_raw tick_gtod offset old new : ℤ) (stamps : List Pair)
     → IsHome z.cpu start number v.view → ShowsLocal z v raw tick_raw tick_gtod offset old new w
-    → HasStamps z.cpu v.view.pairs opening stamps → HasStamps z.cpu w.view.pairs opening stamps
-local_whole z start number v w raw tick_raw tick_gtod offset old new opening stamps home h has =
+    → HasStamps z.cpu v.view.pairs stamps → HasStamps z.cpu w.view.pairs stamps
+local_whole z start number v w raw tick_raw tick_gtod offset old new stamps home h has =
     let half : View = h.raised.finds.half in
     let pair : View = h.raised.pair in
     let first = local_raw z start number v w raw h.step home h.raised in
     let second = local_gtod z start number v w raw h.step home h.raised in
     let half_owner : has_number half.pairs.owns z.cpu ≡ true = ap (λ (x : View). has_number x.pairs.owns z.cpu) first.finds.view_is ∙ has.owner in
     let pair_owner : has_number pair.pairs.owns z.cpu ≡ true = ap (λ (x : View). has_number x.pairs.owns z.cpu) second.finds.view_is ∙ half_owner in
-    let gtod_half = finds_other v.view half (raw_of z.cpu) (gtod_of z.cpu) _ h.raised.tick_raw first.finds (λ e. omega (arith, e)) ∙ has.gtods in
-    let raw_half = finds_same v.view half (raw_of z.cpu) _ h.raised.tick_raw opening.raw _ first.finds (first.whole has.owner) has.raws in
-    let whole : HasStamps z.cpu pair.pairs opening stamps = record {
-      raws = finds_other half pair (gtod_of z.cpu) (raw_of z.cpu) _ h.raised.tick_gtod second.finds (λ e. omega (arith, e)) ∙ raw_half;
-      gtods = finds_same half pair (gtod_of z.cpu) _ h.raised.tick_gtod opening.gtod _ second.finds (second.whole half_owner) gtod_half;
+    let gtod_half = ap (λ (p : Part). p.after) (finds_other v.view half (raw_of z.cpu) (gtod_of z.cpu) _ h.raised.tick_raw first.finds (λ e. omega (arith, e))) ∙ has.gtods in
+    let raw_half = finds_same v.view half (raw_of z.cpu) _ h.raised.tick_raw _ first.finds (first.whole has.owner) has.raws in
+    let whole : HasStamps z.cpu pair.pairs stamps = record {
+      raws = ap (λ (p : Part). p.after) (finds_other half pair (gtod_of z.cpu) (raw_of z.cpu) _ h.raised.tick_gtod second.finds (λ e. omega (arith, e))) ∙ raw_half;
+      gtods = finds_same half pair (gtod_of z.cpu) _ h.raised.tick_gtod _ second.finds (second.whole half_owner) gtod_half;
       owner = pair_owner;
     } in
-    subst (λ (ps : PairView). HasStamps z.cpu ps opening stamps) (sym h.raised.pairs_is) whole
+    subst (λ (ps : PairView). HasStamps z.cpu ps stamps) (sym h.raised.pairs_is) whole
 
 -- one more value of a register, of which this is known
-stamped_more : (v : View) (r : ℕ) (x stamp : ℤ) (xs : List ℤ) → part_of v.pairs.parts r ≡ record { zero = Some stamp; after = xs }
-    → part_of (stamped r x v).pairs.parts r ≡ record { zero = Some stamp; after = xs ++ x ∷ [] }
-stamped_more v r x stamp xs is =
-    put_here v.pairs.parts r (record { zero = (part_of v.pairs.parts r).zero; after = (part_of v.pairs.parts r).after ++ x ∷ [] })
-    ∙ ap (λ (p : Part). record { zero = p.zero; after = p.after ++ x ∷ [] }) is
+stamped_more : (v : View) (r : ℕ) (x : ℤ) (xs : List ℤ) → (part_of v.pairs.parts r).after ≡ xs → (part_of (stamped r x v).pairs.parts r).after ≡ xs ++ x ∷ []
+stamped_more v r x xs is =
+    ap (λ (p : Part). p.after)
+    (put_here v.pairs.parts r (record { zero = (part_of v.pairs.parts r).zero; after = (part_of v.pairs.parts r).after ++ x ∷ [] }))
+    ∙ ap (λ (ys : List ℤ). ys ++ x ∷ []) is
 
-stamped_other : (v : View) (r k : ℕ) (x : ℤ) → k ≢ r → part_of (stamped r x v).pairs.parts k ≡ part_of v.pairs.parts k
+stamped_other : (v : View) (r k : ℕ) (x : ℤ) → k ≢ r → (part_of (stamped r x v).pairs.parts k).after ≡ (part_of v.pairs.parts k).after
 stamped_other v r k x other =
-    put_else v.pairs.parts r k (record { zero = (part_of v.pairs.parts r).zero; after = (part_of v.pairs.parts r).after ++ x ∷ [] }) other
+    ap (λ (p : Part). p.after)
+    (put_else v.pairs.parts r k (record { zero = (part_of v.pairs.parts r).zero; after = (part_of v.pairs.parts r).after ++ x ∷ [] }) other)
 
-stamp_whole : (v : View) (cpu : ℕ) (raw gtod : ℤ) (opening : Pair) (stamps : List Pair) → HasStamps cpu v.pairs opening stamps
-    → HasStamps cpu (stamped (raw_of cpu) raw (stamped (gtod_of cpu) gtod v)).pairs opening (stamps ++ (record { raw = raw; gtod = gtod }) ∷ [])
-stamp_whole v cpu raw gtod opening stamps has =
+stamp_whole : (v : View) (cpu : ℕ) (raw gtod : ℤ) (stamps : List Pair) → HasStamps cpu v.pairs stamps
+    → HasStamps cpu (stamped (raw_of cpu) raw (stamped (gtod_of cpu) gtod v)).pairs (stamps ++ (record { raw = raw; gtod = gtod }) ∷ [])
+stamp_whole v cpu raw gtod stamps has =
     let half : View = stamped (gtod_of cpu) gtod v in
     let one : Pair = record { raw = raw; gtod = gtod } in
     let raw_half = stamped_other v (gtod_of cpu) (raw_of cpu) gtod (λ e. omega (arith, e)) ∙ has.raws in
     record {
-      raws =
-          stamped_more half (raw_of cpu) raw opening.raw (map (λ (s : Pair). s.raw) stamps) raw_half
-          ∙ ap (λ (xs : List ℤ). record { zero = Some opening.raw; after = xs }) (sym (map-append (λ (s : Pair). s.raw) stamps (one ∷ [])));
+      raws = stamped_more half (raw_of cpu) raw (map (λ (s : Pair). s.raw) stamps) raw_half ∙ sym (map-append (λ (s : Pair). s.raw) stamps (one ∷ []));
       gtods =
           stamped_other half (raw_of cpu) (gtod_of cpu) raw (λ e. omega (arith, e))
-          ∙ stamped_more v (gtod_of cpu) gtod opening.gtod (map (λ (s : Pair). s.gtod) stamps) has.gtods
-          ∙ ap (λ (xs : List ℤ). record { zero = Some opening.gtod; after = xs }) (sym (map-append (λ (s : Pair). s.gtod) stamps (one ∷ [])));
+          ∙ stamped_more v (gtod_of cpu) gtod (map (λ (s : Pair). s.gtod) stamps) has.gtods
+          ∙ sym (map-append (λ (s : Pair). s.gtod) stamps (one ∷ []));
       owner = has.owner;
     }
 
-whole_same : (cpu : ℕ) (v w : View) (opening : Pair) (stamps : List Pair) → w.pairs ≡ v.pairs → HasStamps cpu v.pairs opening stamps → HasStamps cpu w.pairs opening (stamps ++ [])
-whole_same cpu v w opening stamps same has =
-    subst (HasStamps cpu w.pairs opening) (sym (append-nil stamps)) (subst (λ (ps : PairView). HasStamps cpu ps opening stamps) (sym same) has)
+whole_same : (cpu : ℕ) (v w : View) (stamps : List Pair) → w.pairs ≡ v.pairs → HasStamps cpu v.pairs stamps → HasStamps cpu w.pairs (stamps ++ [])
+whole_same cpu v w stamps same has =
+    subst (HasStamps cpu w.pairs) (sym (append-nil stamps)) (subst (λ (ps : PairView). HasStamps cpu ps stamps) (sym same) has)
 
-shows_whole : (z : Site) (start : Start) (number : ℕ) (v : Known) (k : EventKind) (w : Known) (opening : Pair) (stamps : List Pair) → IsHome z.cpu start number v.view
-    → Shows z v k w → HasStamps z.cpu v.view.pairs opening stamps → HasStamps z.cpu w.view.pairs opening (stamps ++ stamp_of_kind k)
-shows_whole z start number v (Stable raw value) w opening stamps home h has = absurd h
-shows_whole z start number v (Local raw tick_raw tick_gtod offset old new) w opening stamps home h has =
-    subst (HasStamps z.cpu w.view.pairs opening) (sym (append-nil stamps))
-    (local_whole z start number v w raw tick_raw tick_gtod offset old new opening stamps home h has)
-shows_whole z start number v (Couple asked own other word old new) w opening stamps home h has = whole_same z.cpu v.view w.view opening stamps h.coupled.pairs_is has
-shows_whole z start number v (Stamp gtod_ticket gtod raw) w opening stamps home h has =
-    subst (λ (x : View). HasStamps z.cpu x.pairs opening (stamps ++ (record { raw = raw.ns; gtod = gtod }) ∷ [])) (sym h.view_is)
-    (stamp_whole v.view z.cpu raw.ns gtod opening stamps has)
-shows_whole z start number v Nothing w opening stamps home h has = absurd h
-shows_whole z start number v (Update p) w opening stamps home h has = whole_same z.cpu v.view w.view opening stamps (ap (λ (x : View). x.pairs) h.view_is) has
-shows_whole z start number v (Pause ticket count) w opening stamps home h has = whole_same z.cpu v.view w.view opening stamps (ap (λ (x : View). x.pairs) h.view_is) has
+shows_whole : (z : Site) (start : Start) (number : ℕ) (v : Known) (k : EventKind) (w : Known) (stamps : List Pair) → IsHome z.cpu start number v.view
+    → Shows z v k w → HasStamps z.cpu v.view.pairs stamps → HasStamps z.cpu w.view.pairs (stamps ++ stamp_of_kind k)
+shows_whole z start number v (Stable raw value) w stamps home h has = whole_same z.cpu v.view w.view stamps (ap (λ (x : View). x.pairs) h.stable.view_is) has
+shows_whole z start number v (Local raw tick_raw tick_gtod offset old new) w stamps home h has =
+    subst (HasStamps z.cpu w.view.pairs) (sym (append-nil stamps)) (local_whole z start number v w raw tick_raw tick_gtod offset old new stamps home h has)
+shows_whole z start number v (Couple asked own other word old new) w stamps home h has = whole_same z.cpu v.view w.view stamps h.coupled.pairs_is has
+shows_whole z start number v (Stamp gtod_ticket gtod raw) w stamps home h has =
+    subst (λ (x : View). HasStamps z.cpu x.pairs (stamps ++ (record { raw = raw.ns; gtod = gtod }) ∷ [])) (sym h.stamps.view_is)
+    (stamp_whole v.view z.cpu raw.ns gtod stamps has)
+shows_whole z start number v Nothing w stamps home h has = whole_same z.cpu v.view w.view stamps (ap (λ (x : Known). x.view.pairs) h.same) has
+shows_whole z start number v (Update p) w stamps home h has = whole_same z.cpu v.view w.view stamps (ap (λ (x : View). x.pairs) h.view_is) has
+shows_whole z start number v (Pause ticket count) w stamps home h has = whole_same z.cpu v.view w.view stamps (ap (λ (x : View). x.pairs) h.view_is) has
 
-pub runs_whole : (z : Site) (start : Start) (number : ℕ) (v : Known) (es : List Event) (w : Known) (opening : Pair) (stamps : List Pair) → IsHome z.cpu start number v.view
-    → Runs z v es w → HasStamps z.cpu v.view.pairs opening stamps → HasStamps z.cpu w.view.pairs opening (stamps ++ flat_map (λ e. stamp_of_kind e.kind) es)
-runs_whole z start number v [] w opening stamps home r has = whole_same z.cpu v.view w.view opening stamps (ap (λ (x : Known). x.view.pairs) (sym r)) has
-runs_whole z start number v (e ∷ es) w opening stamps home r has =
-    let looked = subst (λ (x : View). HasStamps z.cpu x.pairs opening stamps) (sym r.2.view_is) has in
-    let here = shows_whole (at_call z e.call) start number r.0 e.kind r.1 opening stamps (home_looked z.cpu start number v r.0 r.2 home) r.3 looked in
-    subst (HasStamps z.cpu w.view.pairs opening) (append_assoc stamps (stamp_of_kind e.kind) (flat_map (λ x. stamp_of_kind x.kind) es))
-    (runs_whole z start number r.1 es w opening (stamps ++ stamp_of_kind e.kind) (home_next z start number v e es w r home) r.4 here)
+pub runs_whole : (z : Site) (start : Start) (number : ℕ) (v : Known) (es : List Event) (w : Known) (stamps : List Pair) → IsHome z.cpu start number v.view
+    → Runs z v es w → HasStamps z.cpu v.view.pairs stamps → HasStamps z.cpu w.view.pairs (stamps ++ flat_map (λ e. stamp_of_kind e.kind) es)
+runs_whole z start number v [] w stamps home r has = whole_same z.cpu v.view w.view stamps (ap (λ (x : Known). x.view.pairs) (sym r)) has
+runs_whole z start number v (e ∷ es) w stamps home r has =
+    let looked = subst (λ (x : View). HasStamps z.cpu x.pairs stamps) (sym r.2.view_is) has in
+    let here = shows_whole (at_call z e.call) start number r.0 e.kind r.1 stamps (home_looked z.cpu start number v r.0 r.2 home) r.3 looked in
+    subst (HasStamps z.cpu w.view.pairs) (append_assoc stamps (stamp_of_kind e.kind) (flat_map (λ x. stamp_of_kind x.kind) es))
+    (runs_whole z start number r.1 es w (stamps ++ stamp_of_kind e.kind) (home_next z start number v e es w r home) r.4 here)

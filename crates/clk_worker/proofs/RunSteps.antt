@@ -79,13 +79,13 @@ couple_step z start thread v w asked own other word old new home h =
 
 shows_mine : (z : Site) (start : Start) (thread part : ℕ) (v : Known) (k : EventKind) (w : Known) → IsHome z.cpu start (thread + 1) v.view → Shows z v k w
     → w.view.mine ≡ v.view.mine ++ map numbered (steps_of_kind thread z.cpu z.call part k)
-shows_mine z start thread part v (Stable raw value) w home h = absurd h
+shows_mine z start thread part v (Stable raw value) w home h = ap (λ (x : View). x.mine) h.stable.view_is ∙ sym (append-nil v.view.mine)
 shows_mine z start thread part v (Local raw tick_raw tick_gtod offset old new) w home h =
     h.raised.mine_is ∙ ap (λ s. v.view.mine ++ s ∷ []) (local_step z start thread v w raw tick_raw tick_gtod offset old new home h)
 shows_mine z start thread part v (Couple asked own other word old new) w home h =
     h.coupled.mine_is ∙ ap (λ s. v.view.mine ++ s ∷ []) (couple_step z start thread v w asked own other word old new home h)
-shows_mine z start thread part v (Stamp gtod_ticket gtod raw) w home h = ap (λ (x : View). x.mine) h.view_is ∙ sym (append-nil v.view.mine)
-shows_mine z start thread part v Nothing w home h = absurd h
+shows_mine z start thread part v (Stamp gtod_ticket gtod raw) w home h = ap (λ (x : View). x.mine) h.stamps.view_is ∙ sym (append-nil v.view.mine)
+shows_mine z start thread part v Nothing w home h = ap (λ (x : Known). x.view.mine) h.same ∙ sym (append-nil v.view.mine)
 shows_mine z start thread part v (Update p) w home h = ap (λ (x : View). x.mine) h.view_is ∙ sym (append-nil v.view.mine)
 shows_mine z start thread part v (Pause ticket count) w home h = ap (λ (x : View). x.mine) h.view_is ∙ sym (append-nil v.view.mine)
 
@@ -124,13 +124,13 @@ couple_reaches z tick v w asked own other word old new h =
 
 shows_reaches : (z : Site) (start : Start) (number thread part : ℕ) (v : Known) (k : EventKind) (w : Known) (rest : List Placed) → IsHome z.cpu start number v.view → Shows z v k w
     → All (ReachesTarget start.tick) rest → All (ReachesTarget start.tick) (steps_of_kind thread z.cpu z.call part k ++ rest)
-shows_reaches z start number thread part v (Stable raw value) w rest home h later = absurd h
+shows_reaches z start number thread part v (Stable raw value) w rest home h later = later
 shows_reaches z start number thread part v (Local raw tick_raw tick_gtod offset old new) w rest home h later =
     All-cons (ReachesTarget start.tick) _ rest (local_reaches z start number v w raw tick_raw tick_gtod offset old new home h) later
 shows_reaches z start number thread part v (Couple asked own other word old new) w rest home h later =
     All-cons (ReachesTarget start.tick) _ rest (couple_reaches z start.tick v w asked own other word old new h) later
 shows_reaches z start number thread part v (Stamp gtod_ticket gtod raw) w rest home h later = later
-shows_reaches z start number thread part v Nothing w rest home h later = absurd h
+shows_reaches z start number thread part v Nothing w rest home h later = later
 shows_reaches z start number thread part v (Update p) w rest home h later = later
 shows_reaches z start number thread part v (Pause ticket count) w rest home h later = later
 

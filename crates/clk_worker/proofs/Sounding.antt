@@ -9,12 +9,11 @@ use Rattle.clk_machine.specs.Plan.{Plan}
 use Rattle.clk_machine.specs.Records.{base_of, AreRecords}
 use Rattle.clk_machine.specs.declared.reading.RawReading.{RawReading}
 use Rattle.clk_machine.specs.declared.reading.Published.{Published}
-use Rattle.clk_words.specs.declared.step.Step.{Step}
 use Rattle.clk_latch.specs.Epoch.{Epoch}
 use Rattle.clk_latch.specs.Calls.{AreDrawn, DrawsTicket, Reads, Updates}
 use Rattle.clk_latch.proofs.Staying.{stay_drawn}
 use Rattle.clk_local.specs.Context.{Site, Known, BeginsAtBase}
-use Rattle.clk_local.specs.Shows.{ShowsRaised, ShowsStamp}
+use Rattle.clk_local.specs.Shows.{ReadsRaw, ShowsStamp}
 use Rattle.clk_worker.specs.Running.{at_call, IsSound}
 
 -- ---- records that begin at the machine's base
@@ -69,10 +68,11 @@ pub updates_sound : (z : Site) (share : ℕ) (v : Known) (after : Epoch) (later 
 updates_sound z share v after later p s updates d =
     record { base = sound_base z.machine z.cpu z.adjust after updates.records; share_is = d.share ∙ s.share_is; rises = d.rises s.rises }
 
-pub raised_sound : (z : Site) (share call : ℕ) (v w : Known) (raw : RawReading) (step : Step) → IsSound z share v → ShowsRaised (at_call z call) v raw step w → IsSound z share w
-raised_sound z share call v w raw step s h =
-    let drawn = draws_sound z share v w.time raw.ticket 1 s h.reads.draws in
-    same_sound z share (record v { time = w.time; epoch = w.epoch }) w refl refl (reads_sound z share (record v { time = w.time }) w.epoch raw drawn h.reads.reads)
+-- after a reading
+pub reading_sound : (z : Site) (share call : ℕ) (v w : Known) (raw : RawReading) → IsSound z share v → ReadsRaw (at_call z call) v v.time raw w → IsSound z share w
+reading_sound z share call v w raw s h =
+    let drawn = draws_sound z share v w.time raw.ticket 1 s h.draws in
+    same_sound z share (record v { time = w.time; epoch = w.epoch }) w refl refl (reads_sound z share (record v { time = w.time }) w.epoch raw drawn h.reads)
 
 pub stamp_sound : (z : Site) (share call : ℕ) (v w : Known) (gtod_ticket : ℕ) (gtod : ℤ) (stamp : RawReading) → IsSound z share v
     → ShowsStamp (at_call z call) v gtod_ticket gtod stamp w → IsSound z share w
@@ -119,10 +119,10 @@ reads_latch z v after raw s reads =
       drawn = subst (AreDrawn v.time.blocks) (sym same) s.drawn;
     }
 
-pub raised_latch : (z : Site) (call : ℕ) (v w : Known) (raw : RawReading) (step : Step) → ShowsRaised (at_call z call) v raw step w → OwnsLatch z v → OwnsLatch z w
-raised_latch z call v w raw step h s =
-    let drawn = draws_latch z v w.time raw.ticket 1 s h.reads.draws in
-    same_latch z (record v { time = w.time; epoch = w.epoch }) w refl refl (reads_latch z (record v { time = w.time }) w.epoch raw drawn h.reads.reads)
+pub reading_latch : (z : Site) (call : ℕ) (v w : Known) (raw : RawReading) → ReadsRaw (at_call z call) v v.time raw w → OwnsLatch z v → OwnsLatch z w
+reading_latch z call v w raw h s =
+    let drawn = draws_latch z v w.time raw.ticket 1 s h.draws in
+    same_latch z (record v { time = w.time; epoch = w.epoch }) w refl refl (reads_latch z (record v { time = w.time }) w.epoch raw drawn h.reads)
 
 pub stamp_latch : (z : Site) (call : ℕ) (v w : Known) (gtod_ticket : ℕ) (gtod : ℤ) (stamp : RawReading) → ShowsStamp (at_call z call) v gtod_ticket gtod stamp w
     → OwnsLatch z v → OwnsLatch z w

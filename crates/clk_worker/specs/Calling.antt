@@ -2,7 +2,6 @@
 use Rattle.std.specs.Prelude.{◌≡◌, ℕ, ◌+◌, ◌≤◌, List, [], ◌∷◌, ◌++◌, length, slice_index_or, ◌⊎◌, if◌then◌else◌}
 use Rattle.clk_num.specs.Listed.{Listed}
 use Rattle.clk_ticket.specs.Time.{share_of}
-use Rattle.clk_words.specs.declared.opening.Mode.TheVariants.{PerCpu}
 use Rattle.clk_machine.specs.Limits.{IsOfReader, is_update}
 use Rattle.clk_machine.specs.Tickets.{tickets_of}
 use Rattle.clk_machine.specs.declared.script.Word.{Word}
@@ -55,9 +54,8 @@ pub record IsContext (s : Shared) (p : Post) (call : ℕ) (o : Own) (ctx : Conte
   pub epochs : ctx.epochs.now ≡ slice_index_or s.epochs.items p.cpu ctx.epochs.now
   pub tickets : ctx.tickets.now ≡ s.tickets
 
--- a context of a thread whose clock is per-CPU from the start, with so many of the run's tickets
+-- a context of a thread, with so many of the run's tickets
 pub record Serves (share : ℕ) (ctx : Context) : Type 0 where
-  pub percpu : ctx.seat.view.start.opening.mode ≡ PerCpu
   pub usable : IsUsable (λ l s. s.latch ≡ l) (λ s. s.epoch) ctx
   pub sound : IsSound (site_of ctx) share (known ctx)
 
@@ -90,10 +88,10 @@ pub record KeepsEvents (call : ℕ) (kinds : List EventKind) (v w : Listed Event
 
 -- ---- one word
 
--- what is left of tickets and of updates after so many of each
+-- of tickets and of updates so many of each were spent at most
 pub record Spends (tickets updates : ℕ) (v w : Known) : Type 0 where
-  pub tickets_left : w.time.left + tickets ≡ v.time.left
-  pub updates_left : w.epoch.left + updates ≡ v.epoch.left
+  pub tickets_left : v.time.left ≤ w.time.left + tickets
+  pub updates_left : v.epoch.left ≤ w.epoch.left + updates
 
 -- the updates of a word
 abbrev pub updates_in : Word → ℕ

@@ -4,7 +4,6 @@ use Rattle.std.specs.List.{sum_by}
 use Rattle.clk_num.specs.Listed.{Listed}
 use Rattle.clk_num.specs.Range.{IsNear, IsFrom0To}
 use Rattle.clk_ticket.specs.Time.{share_of}
-use Rattle.clk_words.specs.declared.opening.Mode.TheVariants.{PerCpu}
 use Rattle.clk_words.specs.Held.{place_of}
 use Rattle.clk_words.specs.Histories.{opens_at}
 use Rattle.clk_words.specs.Kinds.{cpu_of}
@@ -41,14 +40,13 @@ words_from s p n = drop n (script_of s p)
 
 -- ---- what it stands on
 
--- the shared things are those of one machine, whose clock is per-CPU from the start
+-- the shared things are those of one machine
 pub record FitTogether (s : Shared) : Type 0 where
   pub limits : IsWithinLimits s.machine
   pub cpus : s.words.start.cpus ≡ cpu_count s.machine
   pub latches : length s.epochs.items ≡ cpu_count s.machine
   pub tick : s.words.start.tick ≡ s.machine.tick
   pub opening : IsFrom0To (2 ^ 57) (above_base s.machine (opens_at s.words.start))
-  pub percpu : s.words.start.opening.mode ≡ PerCpu
 
 -- the seats serve a thread of the machine on its CPU, with so many of the run's tickets, drawn or left
 pub record SeatsServe (s : Shared) (p : Post) (share : ℕ) (o : Own) : Type 0 where

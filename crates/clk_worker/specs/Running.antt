@@ -1,17 +1,18 @@
 -- How a thread goes from event to event, by what its seats have.
-use Rattle.std.specs.Prelude.{◌≡◌, ◌≢◌, ℕ, ◌<◌, true, ℤ, List, [], ◌∷◌}
+use Rattle.std.specs.Prelude.{◌≡◌, ◌≢◌, ℕ, ◌<◌, true, false, ℤ, List, [], ◌∷◌, ◌++◌}
 use Rattle.clk_base.specs.Blocks.{Rises}
 use Rattle.clk_ticket.specs.Time.{Draws, share_of}
 use Rattle.clk_words.specs.declared.step.Step.{Step}
 use Rattle.clk_words.specs.declared.step.Why.{Why}
 use Rattle.clk_words.specs.declared.step.Why.TheVariants.{Raise}
 use Rattle.clk_words.specs.declared.step.Why.TheVariants as why
+use Rattle.clk_words.specs.Histories.{is_lift}
 use Rattle.clk_machine.specs.Records.{AreRecords}
 use Rattle.clk_machine.specs.declared.reading.RawReading.{RawReading}
 use Rattle.clk_machine.specs.declared.reading.Published.{Published}
 use Rattle.clk_latch.specs.Calls.{AreDrawn, DrawsTicket, Updates}
 use Rattle.clk_local.specs.Context.{Site, Known, BeginsAtBase, MayStamp, looked_as}
-use Rattle.clk_local.specs.Shows.{ShowsRaised, ShowsStamp}
+use Rattle.clk_local.specs.Shows.{ShowsStable, ShowsRaised, ShowsStamp}
 use Rattle.clk_local.specs.declared.events.Reading.{Reading}
 use Rattle.clk_local.specs.declared.events.Reading.TheVariants.{Stable, PerCpu}
 use Rattle.clk_local.specs.declared.events.TickEvent.{TickEvent}
@@ -60,18 +61,39 @@ abbrev pub kinds_of_tick : TickEvent → List EventKind
 kinds_of_tick Nothing = kind.Nothing ∷ []
 kinds_of_tick (Ticked gtod_ticket gtod stamp raw step) = Stamp gtod_ticket gtod stamp ∷ kinds_of_step raw step
 
--- ---- one event
+-- ---- one event, and what its call's look at the mode had found
+
+-- a stable reading: no look of the seat has found the clock per-CPU
+pub record ShowsSettled (z : Site) (v : Known) (raw : RawReading) (value : ℤ) (w : Known) : Type 0 where
+  pub found : v.view.modes.found ≡ false
+  pub stable : ShowsStable z v raw value w
+
+-- a tick that stamps nothing, likewise
+pub record ShowsNothing (v w : Known) : Type 0 where
+  pub found : v.view.modes.found ≡ false
+  pub same : w ≡ v
 
 -- a local reading is a step of the thread on its clock word
 pub record ShowsLocal (z : Site) (v : Known) (raw : RawReading) (tick_raw tick_gtod offset old new : ℤ) (w : Known) : Type 0 where
+  pub found : v.view.modes.found ≡ true
   pub step : Step
   pub raised : ShowsRaised z v raw step w
   pub why_is : step.why ≡ Raise raw.ns tick_raw tick_gtod offset
   pub old_is : step.old ≡ old
   pub new_is : step.new ≡ new
 
--- a coupling with another CPU of the words is a step on the lower of both clock words
+-- a step that is no lift stands here: it came after all lifts
+pub record HasPassed (seen : List Step) : Type 0 where
+  pub front : List Step
+  pub step : Step
+  pub back : List Step
+  pub is : seen ≡ front ++ step ∷ back
+  pub passes : is_lift step.why ≡ false
+
+-- a coupling with another CPU of the words is a step on the lower of both clock words, after a reading of the own one
 pub record ShowsCouple (z : Site) (v : Known) (asked : ℕ) (own other : ℤ) (word : ℕ) (old new : ℤ) (w : Known) : Type 0 where
+  pub found : v.view.modes.found ≡ true
+  pub passed : HasPassed v.view.seen
   pub step : Step
   pub coupled : ShowsCoupling z asked v own other step w
   pub within : asked < v.view.start.cpus
@@ -79,6 +101,11 @@ pub record ShowsCouple (z : Site) (v : Known) (asked : ℕ) (own other : ℤ) (w
   pub word_is : step.word ≡ word
   pub old_is : step.old ≡ old
   pub new_is : step.new ≡ new
+
+-- a stamp is one of a per-CPU clock
+pub record ShowsStamped (z : Site) (v : Known) (gtod_ticket : ℕ) (gtod : ℤ) (raw : RawReading) (w : Known) : Type 0 where
+  pub found : v.view.modes.found ≡ true
+  pub stamps : ShowsStamp z v gtod_ticket gtod raw w
 
 -- an update is what the latch's update answered
 pub record ShowsUpdate (z : Site) (v : Known) (p : Published) (w : Known) : Type 0 where
@@ -92,22 +119,22 @@ pub record ShowsPause (v : Known) (ticket count : ℕ) (w : Known) : Type 0 wher
   pub epoch_is : w.epoch ≡ v.epoch
   pub view_is : w.view ≡ v.view
 
--- the event of this site's call took the seats from v to w; where the clock is per-CPU from the start, no event of the stable
--- clock is made
+-- the event of this site's call took the seats from v to w
 abbrev pub Shows : Site → Known → EventKind → Known → Type 0
-Shows z v (kind.Stable raw value) w = ⊥
+Shows z v (kind.Stable raw value) w = ShowsSettled z v raw value w
 Shows z v (Local raw tick_raw tick_gtod offset old new) w = ShowsLocal z v raw tick_raw tick_gtod offset old new w
 Shows z v (Couple asked own other word old new) w = ShowsCouple z v asked own other word old new w
-Shows z v (Stamp gtod_ticket gtod raw) w = ShowsStamp z v gtod_ticket gtod raw w
-Shows z v kind.Nothing w = ⊥
+Shows z v (Stamp gtod_ticket gtod raw) w = ShowsStamped z v gtod_ticket gtod raw w
+Shows z v kind.Nothing w = ShowsNothing v w
 Shows z v (Update p) w = ShowsUpdate z v p w
 Shows z v (Pause ticket count) w = ShowsPause v ticket count w
 
 -- ---- all events
 
--- looks at the mode, or none, and nothing else
+-- looks at the mode, or none, and nothing else; what was found per-CPU stays so
 pub record HasLooked (v w : Known) : Type 0 where
   pub view_is : w.view ≡ looked_as w.view v.view
+  pub found : v.view.modes.found ≡ true → w.view.modes.found ≡ true
   pub epoch_is : w.epoch ≡ v.epoch
   pub time_is : w.time ≡ v.time
 

@@ -1,5 +1,6 @@
 //! How the answers of calls are kept as events.
 ghost use Rattle.std.specs.Prelude.{[], ◌∷◌, ◌≤◌};
+ghost use Rattle.clk_trace.specs.declared.event.EventKind.TheVariants.{Stable, Couple};
 ghost use Rattle.clk_worker.specs.Running.{kinds_of_step, kinds_of_reading, kinds_of_tick};
 ghost use Rattle.clk_worker.specs.Calling.{kinds_of_remote, KeepsEvents};
 
@@ -42,22 +43,39 @@ fn keep_step(events: &mut List<Event>, call: u32, raw: &RawReading, step: &Step)
     }
 }
 
+// Keeps the event of a stable reading.
+fn keep_stable(events: &mut List<Event>, call: u32, raw: &RawReading, value: i64)
+    requires room { 1 ≤ events.old.room }
+    ensures { KeepsEvents call (Stable raw.now value ∷ []) events.old events.new }
+{
+    keep(events, call, EventKind::Stable { raw: *raw, value });
+}
+
 /// Keeps the event of a reading of the own clock.
 pub(crate) fn keep_reading(events: &mut List<Event>, call: u32, reading: &Reading)
     requires room { 1 ≤ events.old.room }
     ensures { KeepsEvents call (kinds_of_reading reading.now) events.old events.new }
 {
     match reading {
-        Reading::Stable { raw, value } => keep(
-            events,
-            call,
-            EventKind::Stable {
-                raw: *raw,
-                value: *value,
-            },
-        ),
+        Reading::Stable { raw, value } => keep_stable(events, call, raw, *value),
         Reading::PerCpu { raw, step } => keep_step(events, call, raw, step),
     }
+}
+
+// Keeps the event of a coupling, of whose words these values were loaded.
+fn keep_couple(events: &mut List<Event>, call: u32, asked: u32, own: i64, other: i64, step: &Step)
+    requires room { 1 ≤ events.old.room }
+    ensures { KeepsEvents call (Couple asked own other step.now.word step.now.old step.now.new ∷ []) events.old events.new }
+{
+    let kind = EventKind::Couple {
+        cpu: asked,
+        own,
+        other,
+        word: step.word,
+        old: step.old,
+        new: step.new,
+    };
+    keep(events, call, kind);
 }
 
 /// Keeps the events of a reading of the clock of `asked`.
@@ -66,14 +84,7 @@ pub(crate) fn keep_remote(events: &mut List<Event>, call: u32, asked: u32, event
     ensures { KeepsEvents call (kinds_of_remote asked event.now) events.old events.new }
 {
     match event {
-        RemoteEvent::Stable { raw, value } => keep(
-            events,
-            call,
-            EventKind::Stable {
-                raw: *raw,
-                value: *value,
-            },
-        ),
+        RemoteEvent::Stable { raw, value } => keep_stable(events, call, raw, *value),
         RemoteEvent::Coupled {
             raw,
             local,
@@ -82,15 +93,7 @@ pub(crate) fn keep_remote(events: &mut List<Event>, call: u32, asked: u32, event
             step,
         } => {
             keep_step(events, call, raw, local);
-            let kind = EventKind::Couple {
-                cpu: asked,
-                own: *own,
-                other: *other,
-                word: step.word,
-                old: step.old,
-                new: step.new,
-            };
-            keep(events, call, kind);
+            keep_couple(events, call, asked, *own, *other, step);
         }
     }
 }

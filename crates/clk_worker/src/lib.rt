@@ -14,8 +14,10 @@
 //! the CPU's tick. A reader reads clocks and pauses, and the pair that it goes by may have a GTOD newer than its raw half,
 //! never an older one.
 //!
-//! It promises no order between the workers of a run beyond the history of the clock words. So far the clock is per-CPU from
-//! the start.
+//! The clock may be stable at first: a word looks at the mode, and what it makes is of the mode that it found. Once a
+//! thread has found the clock per-CPU it finds it so again, and shows no event of the stable clock any more.
+//!
+//! It promises no order between the workers of a run beyond the history of the clock words.
 //!
 //! How it works: a word takes the seats out of the worker, puts them with the shared things into the context of a call,
 //! keeps the call's answer as events, and puts the seats back.

@@ -1,7 +1,7 @@
 use Rattle.std.proofs.Common.{◌≡◌, ◌++◌, ap, sym, ◌∙◌, subst, rules, to_z-of_z, FitsSigned, w64}
 use Rattle.clk_words.specs.declared.opening.Start.{Start}
 use Rattle.clk_words.specs.declared.view.View.{View}
-use Rattle.clk_words.specs.Bounds.{IsGtod, IsRaw, IsOffset}
+use Rattle.clk_words.specs.Bounds.{IsGtod, IsRaw}
 use Rattle.clk_words.specs.Held.{Place}
 use Rattle.clk_words.specs.Histories.{opens_at}
 use Rattle.clk_machine.specs.Plan.{cpu_count}
@@ -27,14 +27,11 @@ end_stable-requires-clause-raw g c =
 pub end_stable-requires-clause-value : goal.end_stable-requires-clause-value
 end_stable-requires-clause-value g c =
     let mid = c.store_stamp-stamp.new.ctx in
-    let usable = c.store_stamp-stamp.ensures.usable in
     let gtod : FitsSigned w64 c.store_stamp-stamp.result.gtod = search rules in
     let sched : FitsSigned w64 mid.sched_offset = search rules in
     let offset : FitsSigned w64 mid.gtod_offset = search rules in
     let is = simp to_z-of_z at c.demotion_after-demotion.ensures.is in
-    let near : IsOffset (opens_at mid.words.now.start) mid.gtod_offset =
-    subst (λ (p : Place). IsOffset (opens_at p.start) mid.gtod_offset) usable.seated.of_words usable.offset in
-    lift_value _ _ _ _ _ is (end_stable-requires-clause-gtod g c) near
+    lift_value _ _ _ _ _ is (end_stable-requires-clause-gtod g c) c.store_stamp-stamp.ensures.range
 
 pub returns-clause-shows : goal.returns-clause-shows
 returns-clause-shows g c =

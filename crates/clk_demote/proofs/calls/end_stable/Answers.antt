@@ -1,17 +1,9 @@
 use Rattle.std.proofs.Common.{ap, sym, ◌∙◌, subst, rules, to_z-of_z, FitsSigned, w64}
 use Rattle.clk_words.specs.declared.view.View.{View}
-use Rattle.clk_words.specs.Knowing.{IsGood, HasCloned}
+use Rattle.clk_words.specs.Knowing.{IsGood}
 use Rattle.clk_words.specs.Told.{published}
 use Rattle.clk_demote.specs.Lifts.{lifts_of, lifted}
-use Rattle.clk_demote.proofs.Keeping.{still_unlifted}
 use Rattle.clk_demote.proofs.calls.end_stable.Goals as goal
-
-pub lift_words-requires-clause-unlifted : goal.lift_words-requires-clause-unlifted
-lift_words-requires-clause-unlifted c =
-    still_unlifted c.args.seat.now.view c.store_pairs.new.seat.view (ap (λ (u : View). u.start) c.store_pairs.ensures.view) (ap (λ (u : View). u.seen) c.store_pairs.ensures.view) c.requires.unlifted
-
-pub publish_mode-requires-clause-cloned : goal.publish_mode-requires-clause-cloned
-publish_mode-requires-clause-cloned c = subst HasCloned (sym c.lift_words.ensures.view) c.store_pairs.ensures.cloned
 
 pub returns-clause-view : goal.returns-clause-view
 returns-clause-view c =

@@ -1,6 +1,6 @@
 use Rattle.std.proofs.Common.{◌≡◌, ◌<◌, ap, sym, ◌∙◌, subst, rules, arith, to_z-of_z, FitsSigned, w64}
 use Rattle.clk_words.specs.Held.{Place}
-use Rattle.clk_words.specs.Knowing.{MayDemote}
+use Rattle.clk_words.specs.Knowing.{MayDemote, HasCloned}
 use Rattle.clk_demote.proofs.Lifting.{lifts_more, all_lifted}
 use Rattle.clk_demote.proofs.calls.lift_words.Goals as goal
 
@@ -25,3 +25,6 @@ returns-clause-all c =
     let all : c.args.seat.now.view.start.cpus ≡ c.args.cpus = ap (λ (p : Place). p.start.cpus) c.requires.own ∙ c.requires.cpus.0 in
     let so = simp to_z-of_z at c.loop-cpu.invariant.so in
     all_lifted c.args.seat.now.view c.args.check c.args.opening c.loop-cpu.cpu c.loop-cpu.seat.view so.view (omega (arith, all, c.loop-cpu-test.false, c.loop-cpu.auto.cpu-end))
+
+pub returns-clause-cloned : goal.returns-clause-cloned
+returns-clause-cloned c = subst HasCloned (sym c.loop-cpu.invariant.so.view)

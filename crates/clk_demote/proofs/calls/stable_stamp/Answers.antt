@@ -30,27 +30,17 @@ publish_offset-requires-clause-bound g c =
 
 pub returns-clause-usable : goal.returns-clause-usable
 returns-clause-usable g c =
-    let ctx = c.args.ctx.now in
     let mid = c.store_stamp-stamp.new.ctx in
     let stamp = c.store_stamp-stamp.result in
-    let keeps = c.store_stamp-stamp.ensures.keeps in
-    let takes = c.store_stamp-stamp.ensures.shows.takes in
     let usable = c.store_stamp-stamp.ensures.usable in
     let gtod : FitsSigned w64 stamp.gtod = search rules in
     let sched : FitsSigned w64 mid.sched_offset = search rules in
     let ns : FitsSigned w64 stamp.raw.ns = search rules in
     let fits : FitsSigned w64 c.stable_offset-offset.result = search rules in
     let is : c.stable_offset-offset.result ≡ offset_by mid.sched_offset stamp.gtod stamp.raw.ns = simp to_z-of_z at c.stable_offset-offset.ensures in
-    let low : c.args.cpu < length (map g.E.Epochs.epoch ctx.latch_seats.items) = subst (λ n. c.args.cpu < n) (sym (seats_count _ _ _ c.requires.usable)) c.requires.cpu in
-    let near : IsOffset (opens_at ctx.seat.view.start) (offset_by ctx.sched_offset stamp.gtod stamp.raw.ns) =
-    offset_here _ _ _ _ _ _ _ _ _ low takes.reads c.requires.usable.base c.requires.usable.opening c.requires.usable.sched_offset takes.gtod_bound in
-    let start : mid.seat.view.start ≡ ctx.seat.view.start = ap (λ (u : View). u.start) c.store_stamp-stamp.ensures.shows.view_is in
-    let bound : IsOffset (opens_at mid.seat.view.start) c.stable_offset-offset.result =
-    subst (λ (s : Start). IsOffset (opens_at s) c.stable_offset-offset.result) (sym start)
-    (subst (IsOffset (opens_at ctx.seat.view.start)) (sym (is ∙ ap (λ x. offset_by x stamp.gtod stamp.raw.ns) keeps.sched_offset)) near) in
     let put = simp to_z-of_z at c.publish_offset.ensures.put in
     rw (to_z-of_z fits, to_z-of_z gtod)
     (still_usable _ _ mid c.publish_offset.new.seat mid.latch_seats mid.time c.stable_offset-offset.result
     (record { gtod_ticket = stamp.gtod_ticket; gtod = stamp.gtod; raw = stamp.raw; offset = c.stable_offset-offset.result })
     usable c.publish_offset.ensures.own usable.seated.of_latches refl
-    (ap (λ (u : View). u.start) put) (ap (λ (u : View). u.seen) put) bound (ap (λ (u : View). u.modes.held) put) is usable.base)
+    (ap (λ (u : View). u.start) put) (ap (λ (u : View). u.seen) put) (ap (λ (u : View). u.modes.held) put) is usable.base)

@@ -3,6 +3,7 @@ use Rattle.clk_words.specs.declared.view.View.{View}
 use Rattle.clk_words.specs.Held.{Place}
 use Rattle.clk_words.proofs.Demoting.{HasStored}
 use Rattle.clk_demote.proofs.Copying.{pairs_are}
+use Rattle.clk_demote.proofs.Keeping.{still_unlifted}
 use Rattle.clk_demote.proofs.calls.store_pairs.Goals as goal
 
 pub returns-clause-cloned : goal.returns-clause-cloned
@@ -13,3 +14,8 @@ returns-clause-cloned c = λ r low.
     let view = simp to_z-of_z at c.loop-cpu.invariant.view in
     subst (λ (u : View). HasStored u r) (sym view)
     (pairs_are c.loop-cpu.cpu c.args.gtod c.args.raw c.args.seat.now.view r (omega (arith, low, all, c.loop-cpu-test.false)))
+
+pub returns-clause-unlifted : goal.returns-clause-unlifted
+returns-clause-unlifted c =
+    let view = c.loop-cpu.invariant.view in
+    still_unlifted c.args.seat.now.view c.loop-cpu.seat.view (ap (λ (u : View). u.start) view) (ap (λ (u : View). u.seen) view)

@@ -3,7 +3,7 @@ use Rattle.std.proofs.lemmas.List.{get_or_default}
 use Rattle.clk_ticket.specs.Time.{Time}
 use Rattle.clk_words.specs.declared.opening.Start.{Start}
 use Rattle.clk_words.specs.declared.view.View.{View}
-use Rattle.clk_words.specs.Bounds.{IsRaw}
+use Rattle.clk_words.specs.Bounds.{IsRaw, IsOffset}
 use Rattle.clk_words.specs.Held.{Place}
 use Rattle.clk_words.specs.Histories.{opens_at}
 use Rattle.clk_words.specs.Parts.{raw_of}
@@ -54,7 +54,9 @@ returns-clause-usable g c =
     (ap (λ (t : Time). t.table) c.read_at-raw.ensures.draws.is ∙ ap (λ (t : Time). t.table) c.draw-gtod_ticket.ensures.is)
     (ap (λ (u : View). u.start) second ∙ ap (λ (u : View). u.start) first)
     (ap (λ (u : View). u.seen) second ∙ ap (λ (u : View). u.seen) first)
-    c.requires.usable.offset
     (ap (λ (u : View). u.modes.held) second ∙ ap (λ (u : View). u.modes.held) first ∙ c.requires.usable.held)
     c.requires.usable.by_last
     (still_begins _ _ _ _ _ _ low c.read_at-raw.ensures.reads c.requires.usable.base)
+
+pub returns-clause-range : goal.returns-clause-range
+returns-clause-range g c = subst (λ (p : Place). IsOffset (opens_at p.start) c.args.ctx.now.gtod_offset) c.requires.usable.seated.of_words (c.clone_gtod.ensures.holds c.args.ctx.now.gtod_offset c.requires.usable.held)

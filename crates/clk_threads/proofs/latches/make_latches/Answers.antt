@@ -1,4 +1,5 @@
 use Rattle.std.proofs.Common.{◌≡◌, ℕ, ◌<◌, List, [], ◌∷◌, ◌++◌, length, get_or, sym, ap, ◌∙◌, subst, arith, rules, length-append}
+use Rattle.std.specs.Prelude.{is_some}
 use Rattle.clk_base.specs.Walk.{EachFrom}
 use Rattle.clk_machine.specs.Plan.{Plan, cpu_count, thread_at, threads_of}
 use Rattle.clk_latch.specs.Epoch.{Place, reader_of}
@@ -8,6 +9,7 @@ use Rattle.clk_threads.proofs.Filling.{each_push}
 use Rattle.clk_threads.proofs.Latching.{owners_seats, owner_there, reader_seat, refill_same}
 use Rattle.clk_threads.proofs.LawfulLists.{thread_cpu}
 use Rattle.clk_threads.proofs.Numbering.{threads_cover}
+use Rattle.clk_threads.proofs.SplitLatches.{have_same, owners_are, watch_latches, watched_few}
 use Rattle.clk_threads.proofs.latches.make_latches.Goals as goal
 
 pub fill_latches-requires-clause-seats : goal.fill_latches-requires-clause-seats
@@ -23,16 +25,18 @@ pub loop-thread-init : goal.loop-thread-init
 loop-thread-init c =
     let m : Plan = c.args.machine.now in
     let cpus = c.cpus-cpus.ensures.count in
-    let l : Latches = record { epochs = c.fill_latches.new.epochs; seats = c.fill_latches.new.seats } in
+    let l : Latches = record { epochs = c.fill_latches.new.epochs; seats = c.fill_latches.new.seats; watch = c.in_ok-watch.watch } in
     let told = c.in_ok-fill_latches.ensures in
     let count : length l.epochs.items ≡ cpu_count m = told.count ∙ cpus in
     let threads = c.threads.ensures in
     let room = c.in_ok-seats.ensures.room in
     let left = told.room in
+    let watch = c.in_ok-watch.ensures.room in
     record {
       past = omega (arith, cpus);
       seats = subst (λ (n : ℕ). HaveLatches m c.args.zero n l) (sym cpus) (owners_seats m c.args.zero l count told.latches told.owners);
       room = omega (arith, cpus, threads, room, left);
+      watch = (c.in_ok-watch.ensures.items, omega (arith, watch));
     }
 
 pub get-requires : goal.get-requires
@@ -110,13 +114,34 @@ loop-thread-preserved c =
             (subst (λ (i : ℕ). IsLatchSeat m c.args.zero l i seat) (omega (arith, many)) one));
       };
       room = omega (arith, room, before);
+      watch = c.loop-thread.invariant.watch;
     }
+
+pub split_watch_seats-requires-clause-own : goal.split_watch_seats-requires-clause-own
+split_watch_seats-requires-clause-own c =
+    let m : Plan = c.args.machine.now in
+    let few = watched_few (is_some m.watchdog) (cpu_count m) in
+    let watched = c.watched_cpus-watched.ensures in
+    owners_are m c.args.zero c.loop-thread.thread c.watched_cpus-watched.result c.loop-thread.latches c.loop-thread.invariant.seats c.loop-thread.invariant.past (omega (arith, few, watched))
 
 pub returns : goal.returns
 returns c =
     let m : Plan = c.args.machine.now in
+    let l : Latches = c.split_watch_seats.new.latches in
+    let told = c.split_watch_seats.ensures in
     let cover = threads_cover m in
-    let cpus = c.cpus-cpus.ensures.count in
     let threads = c.threads-thread-end.ensures in
     let past = c.loop-thread-test.false in
-    subst (λ (n : ℕ). HaveLatches m c.args.zero n c.loop-thread.latches) (omega (arith, past, threads, cover, cpus)) c.loop-thread.invariant.seats
+    let watched = c.watched_cpus-watched.ensures in
+    let few = watched_few (is_some m.watchdog) (cpu_count m) in
+    let count = told.count in
+    let before : HaveLatches m c.args.zero c.loop-thread.thread l =
+    have_same m c.args.zero c.loop-thread.thread c.loop-thread.latches l (ap (λ es. es.items) told.epochs) told.seats c.loop-thread.invariant.seats in
+    let all : HaveLatches m c.args.zero (length (threads_of m)) l = subst (λ (n : ℕ). HaveLatches m c.args.zero n l) (omega (arith, past, threads, cover)) before in
+    record {
+      latches = all;
+      watch = record {
+        count = count ∙ watched;
+        each = watch_latches m c.args.zero (length (threads_of m)) l all cover (omega (arith, few, watched, count)) told.watch;
+      };
+    }

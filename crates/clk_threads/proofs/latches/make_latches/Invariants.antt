@@ -1,4 +1,4 @@
-use Rattle.std.proofs.Common.{◌+◌, ◌≤◌, length}
+use Rattle.std.proofs.Common.{◌≡◌, ◌+◌, ◌≤◌, [], length}
 use Rattle.clk_machine.specs.Plan.{cpu_count, threads_of}
 use Rattle.clk_threads.specs.Preparing.{HaveLatches}
 use Rattle.clk_threads.proofs.latches.make_latches.Given as goal
@@ -9,4 +9,5 @@ invariant-loop-thread l = record {
   past : cpu_count l.machine ≤ l.thread;
   seats : HaveLatches l.machine l.fn.zero l.thread l.latches;
   room : length (threads_of l.machine) ≤ l.latches.seats.room + l.thread;
+  watch : (l.latches.watch.items ≡ []) × (l.watched ≤ l.latches.watch.room);
 }

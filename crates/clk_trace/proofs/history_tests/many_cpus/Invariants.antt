@@ -1,6 +1,5 @@
-use Rattle.std.proofs.Common.{◌≡◌, ◌+◌, ◌<◌, ◌≤◌, [], length}
+use Rattle.std.proofs.Common.{◌≡◌, ◌+◌, ◌<◌, length}
 use Rattle.std.specs.List.{All}
-use Rattle.clk_trace.specs.Filling.{NamesWordsBelow}
 use Rattle.clk_trace.proofs.history_tests.many_cpus.Given as goal
 
 abbrev pub invariant-loop-thread : goal.invariant-loop-thread

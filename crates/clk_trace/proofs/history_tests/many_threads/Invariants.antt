@@ -1,4 +1,4 @@
-use Rattle.std.proofs.Common.{◌≡◌, ◌+◌, ◌<◌, ◌≤◌, [], length}
+use Rattle.std.proofs.Common.{◌≡◌, ◌+◌, ◌≤◌, length}
 use Rattle.std.specs.List.{All}
 use Rattle.clk_trace.specs.Filling.{NamesWordsBelow}
 use Rattle.clk_trace.proofs.history_tests.many_threads.Given as goal

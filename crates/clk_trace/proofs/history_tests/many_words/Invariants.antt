@@ -1,6 +1,5 @@
-use Rattle.std.proofs.Common.{◌≡◌, ◌+◌, ◌≤◌, [], length}
+use Rattle.std.proofs.Common.{◌≡◌, ◌+◌, [], length}
 use Rattle.std.specs.List.{All}
-use Rattle.clk_trace.specs.Filling.{NamesWordsBelow}
 use Rattle.clk_trace.proofs.history_tests.many_words.Given as goal
 
 abbrev pub invariant-loop-word : goal.invariant-loop-word

@@ -2,7 +2,7 @@ use Rattle.std.proofs.Common.{append-nil}
 use Rattle.clk_trace.specs.Taking.{Takes, progress_of}
 use Rattle.clk_trace.specs.TraceText.{text}
 use Rattle.clk_trace.proofs.Taking.{takes_more, takes_all}
-use Rattle.clk_trace.proofs.Texts.{text_is}
+use Rattle.clk_trace.proofs.WholeText.{text_is}
 use Rattle.clk_trace.proofs.write.write_trace.Goals as goal
 
 pub returns : goal.returns
@@ -18,10 +18,14 @@ returns g c =
     (takes_more _ _ _ _ _
     (takes_more _ _ _ _ _
     (takes_more _ _ _ _ _
+    (takes_more _ _ _ _ _
+    (takes_more _ _ _ _ _
     (takes_more _ _ _ _ _ (takes_more _ _ _ _ _ (takes_more _ _ _ _ _ c.line.ensures c.line-2.ensures) boots) c.write_start.ensures)
     ups)
+    c.write_boot_demotion.ensures)
     c.write_words.ensures)
     c.write_threads.ensures)
+    c.write_watch.ensures)
     histories)
     c.line-3.ensures)
     c.finish.ensures.takes)) in

@@ -1,6 +1,7 @@
-use Rattle.std.proofs.Common.{[], ◌∷◌, arith}
+use Rattle.std.proofs.Common.{arith}
 use Rattle.clk_ticket.specs.Time.{share_of}
 use Rattle.clk_local.specs.Context.{site_of}
+use Rattle.clk_worker.specs.Running.{kinds_of_tick}
 use Rattle.clk_worker.specs.Calling.{known}
 use Rattle.clk_worker.proofs.Making.{serves_after, owns_after, stands_after}
 use Rattle.clk_worker.proofs.Showing.{showed_tick}
@@ -12,13 +13,13 @@ returns c =
     let u = c.tick-event.new.ctx in
     let told = c.tick-event.ensures in
     let ready = c.requires.serves in
-    let showed = showed_tick (site_of v) (share_of v.time) v.call (known v) (known u) c.tick-event.result ready.sound c.requires.left ready.percpu told.shows in
-    let kinds = showed.kinds_are in
+    let showed = showed_tick (site_of v) (share_of v.time) v.call (known v) (known u) c.tick-event.result ready.sound c.requires.left told.shows in
+    let few = showed.few in
     record {
-      kinds = showed.stamp ∷ showed.kind ∷ [];
+      kinds = kinds_of_tick c.tick-event.result;
       calls = showed.is;
-      few = omega arith;
-      keeps = rw kinds at c.keep_tick.ensures;
+      few = omega (arith, few);
+      keeps = c.keep_tick.ensures;
       runs = showed.showed.runs;
       spends = showed.showed.spends;
       stands = stands_after v u told.keeps;

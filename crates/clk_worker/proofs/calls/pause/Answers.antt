@@ -23,7 +23,6 @@ returns c =
       spends = record { tickets_left = omega (arith, left, within); updates_left = omega arith };
       stands = record { words = refl; epochs = refl; tickets = refl; site = refl };
       serves = record {
-        percpu = ready.percpu;
         usable = record {
           of_words = ready.usable.of_words;
           of_latch = ready.usable.of_latch;

@@ -12,7 +12,7 @@ returns c =
     let u = c.local-reading.new.ctx in
     let told = c.local-reading.ensures in
     let ready = c.requires.serves in
-    let showed = showed_reading (site_of v) (share_of v.time) v.call (known v) (known u) c.local-reading.result ready.sound c.requires.left ready.percpu told.shows in
+    let showed = showed_reading (site_of v) (share_of v.time) v.call (known v) (known u) c.local-reading.result ready.sound c.requires.left told.shows in
     let kinds = showed.kinds_are in
     record {
       kinds = showed.kind ∷ [];

@@ -26,7 +26,6 @@ returns c =
       spends = record { tickets_left = omega (arith, left, within); updates_left = omega (arith, updates, some) };
       stands = record { words = refl; epochs = refl; tickets = refl; site = refl };
       serves = record {
-        percpu = ready.percpu;
         usable = record {
           of_words = ready.usable.of_words;
           of_latch = told.own;

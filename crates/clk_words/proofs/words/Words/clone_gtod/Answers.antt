@@ -4,7 +4,7 @@ use Rattle.clk_words.specs.declared.opening.Start.{Start}
 use Rattle.clk_words.specs.declared.step.Step.{Step}
 use Rattle.clk_words.specs.declared.view.View.{View}
 use Rattle.clk_words.specs.Parts.{gtod_of}
-use Rattle.clk_words.specs.Knowing.{MayDemote}
+use Rattle.clk_words.specs.Knowing.{MayDemote, HoldsInRange}
 use Rattle.clk_words.specs.Held.{Held}
 use Rattle.clk_words.proofs.Watching.{clones_gtod}
 use Rattle.clk_words.proofs.Calling.{belongs, word_low, gtod_place, within_table, place_kept, bits_here, sits_modes, says_cloned}
@@ -38,4 +38,5 @@ returns c =
     record {
       own = place_kept _ _ _ _ _ _ _ own c.self.view_is c.store.ensures.0 (ap (λ (m : Me Step View). m.0.start) told.is);
       cloned = says_cloned _ _ _ _ _ (gtod_of c.args.w) _ c.args.value _ told.is (ap (λ (h : Held). h.view) c.seat.view_is) told.place_is here told.word_is word_is;
+      holds = subst (λ (h : Held). HoldsInRange h.view) c.seat.view_is told.holds;
     }

@@ -1,0 +1,4 @@
+pub mod Drift
+pub mod Lifts
+pub mod Turned
+pub mod Rises

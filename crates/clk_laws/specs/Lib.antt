@@ -1,0 +1,3 @@
+pub mod Demoting
+pub mod Turning
+pub mod Seeing

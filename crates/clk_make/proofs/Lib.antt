@@ -1,0 +1,4 @@
+pub mod Lists
+pub mod ByKind
+pub mod Threading
+pub mod Within

@@ -1,0 +1,16 @@
+pub mod Visits
+pub mod Following
+pub mod Visiting
+pub mod Contexts
+pub mod CheckMade
+pub mod Called
+pub mod Cutting
+pub mod Making
+pub mod Ending
+pub mod LawBlocks
+pub mod LawReadings
+pub mod LawStamps
+pub mod LawDemotion
+pub mod LawCalls
+pub mod LawLifts
+pub mod LawShows
