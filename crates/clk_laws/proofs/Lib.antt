@@ -1,4 +1,5 @@
 pub mod Drift
 pub mod Lifts
 pub mod Turned
+pub mod Highs
 pub mod Rises

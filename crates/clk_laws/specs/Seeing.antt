@@ -1,12 +1,10 @@
 -- No thread sees a clock word fall.
-use Rattle.std.specs.Prelude.{◌≡◌, ℕ, ℤ, List, [], ◌∷◌, ◌++◌, All, AllPairs}
+use Rattle.std.specs.Prelude.{◌≡◌, ℕ, ℤ, List, [], ◌∷◌, All, AllPairs}
 use Rattle.std.specs.List.{AllZip}
-use Rattle.clk_num.specs.Range.{IsNear}
-use Rattle.clk_num.specs.Wrapping.{above, IsNotBelow}
+use Rattle.clk_num.specs.Wrapping.{IsNotBelow}
 use Rattle.clk_machine.specs.Plan.{Plan}
 use Rattle.clk_trace.specs.LawfulTrace.{IsLawful}
 use Rattle.clk_trace.specs.SeenBefore.{Seen, seen_at, shown_by_kind}
-use Rattle.clk_trace.specs.Standing.{lifts_by}
 use Rattle.clk_trace.specs.declared.event.EventKind.{EventKind}
 use Rattle.clk_trace.specs.declared.event.EventKind.TheVariants.{Stable, Local, Couple, Stamp, Nothing, Update, Pause}
 use Rattle.clk_trace.specs.declared.trace.Trace.{Trace}
@@ -26,25 +24,25 @@ abbrev pub FindsNoLess : ℕ → EventKind → EventKind → Type 0
 FindsNoLess cpu before after =
     All (λ y. All (λ x. x.word ≡ y.word → IsNotBelow y.value x.value) (shown_by_kind cpu before)) (found_by_kind cpu after)
 
--- ---- the range in which signs of differences tell the order
+-- ---- where signs of differences tell the order
 
--- a value is within 2^61 of the opening, 73 years
-abbrev pub IsNearOpening : ℤ → ℤ → Type 0
-IsNearOpening opening x = IsNear 61 (above x opening)
+-- what a coupling loaded of the two words is not below the opening; no step leaves a word there
+abbrev pub LoadsNoneBelow : ℤ → EventKind → Type 0
+LoadsNoneBelow opening (Stable raw value) = Unit {0}
+LoadsNoneBelow opening (Local raw tick_raw tick_gtod offset old new) = Unit {0}
+LoadsNoneBelow opening (Couple asked own other word old new) = IsNotBelow own opening × IsNotBelow other opening
+LoadsNoneBelow opening (Stamp gtod_ticket gtod raw) = Unit {0}
+LoadsNoneBelow opening Nothing = Unit {0}
+LoadsNoneBelow opening (Update p) = Unit {0}
+LoadsNoneBelow opening (Pause ticket count) = Unit {0}
 
--- what an event found and showed is
-abbrev pub ShowsNear : ℤ → ℕ → EventKind → Type 0
-ShowsNear opening cpu k = All (λ x. IsNearOpening opening x.value) (found_by_kind cpu k ++ shown_by_kind cpu k)
-
--- and each value that the trace shows of a clock word
-pub record HasNearWords (t : Trace) : Type 0 where
-  pub lifts : All (λ s. IsNearOpening t.start_word s.new) (lifts_by t.watch)
-  pub threads : AllZip (λ cpu es. All (λ e. ShowsNear t.start_word cpu e.kind) es.items) t.cpu_of.items t.threads.items
+abbrev pub NoneLoadedBelow : Trace → Type 0
+NoneLoadedBelow t = All (λ es. All (λ e. LoadsNoneBelow t.start_word e.kind) es.items) t.threads.items
 
 -- in each thread, of each event and each later one
 abbrev pub NoWordFalls : Type 0
 NoWordFalls =
     (m : Plan) (t : Trace)
     → IsLawful m t
-    → HasNearWords t
+    → NoneLoadedBelow t
     → AllZip (λ cpu es. AllPairs (λ e f. FindsNoLess cpu e.kind f.kind) es.items) t.cpu_of.items t.threads.items

@@ -3,9 +3,9 @@ ghost use Rattle.clk_laws.specs.Demoting.{LosesTheDrift, HigherWordsStay};
 ghost use Rattle.clk_laws.specs.Seeing.{NoWordFalls};
 ghost use Rattle.clk_laws.specs.Turning.{NoStableAfterPerCpu, NoPerCpuUndemoted};
 
-/// In a lawful trace each demotion, at boot or by the watchdog, opens the per-CPU clocks at the stable value of its own raw
+/// In a lawful trace each demotion, at boot or by the watchdog, opens the clock words at the stable value of its own raw
 /// reading less the drift, as 64-bit values that wrap. So the end of the stable mode shifts the clock by exactly the drift.
-/// Linux 6.1 does that in `__sched_clock_work` of `kernel/sched/clock.c`.
+/// Linux 6.1 ends the stable mode in `__sched_clock_work` of `kernel/sched/clock.c`.
 pub fn a_demotion_loses_the_drift()
     ensures { LosesTheDrift }
 {}
@@ -16,8 +16,8 @@ pub fn higher_words_stay()
     ensures { HigherWordsStay }
 {}
 
-/// In a lawful trace whose clock words show values within 2^61 ns of their opening, no thread sees a clock word fall: what
-/// an event finds of a word is not below what any earlier event of the same thread showed of it.
+/// In a lawful trace no thread sees a clock word fall, if no coupling loaded a value below the opening: what an event finds of
+/// a word is not below what any earlier event of the same thread showed of it.
 pub fn no_word_is_seen_to_fall()
     ensures { NoWordFalls }
 {}

@@ -6,7 +6,7 @@
 //!
 //! - [`a_demotion_loses_the_drift`]: the end of the stable mode shifts the clock by exactly the drift that it shows.
 //! - [`higher_words_stay`]: a demotion takes no clock word down; a word that is higher than the opening keeps its value.
-//! - [`no_word_is_seen_to_fall`]: no thread sees a clock word fall, where all values shown are near the opening.
+//! - [`no_word_is_seen_to_fall`]: no thread sees a clock word fall, if no coupling loaded a value below the opening.
 //! - [`no_stable_after_percpu`]: no thread goes back from per-CPU clocks to the stable one.
 //! - [`no_percpu_undemoted`]: a stable clock that is not demoted stays stable.
 //!
