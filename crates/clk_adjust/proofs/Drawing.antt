@@ -13,7 +13,7 @@ use Rattle.clk_warp.specs.declared.side.WarpReading.{WarpReading}
 use Rattle.clk_warp.specs.declared.side.WarpRun.{WarpRun}
 use Rattle.clk_warp.specs.Pairs.{drawn_for, block_of, DrawsFor, IsPaired}
 use Rattle.clk_adjust.specs.declared.up.CpuUp.{CpuUp}
-use Rattle.clk_adjust.specs.BroughtUp.{IsRunOf, adjusted}
+use Rattle.clk_adjust.specs.BroughtUp.{IsRunOfCpu, adjusted}
 use Rattle.clk_adjust.specs.Tickets.{readings_in, all_readings, IsMade, HasDrawn}
 
 pub draws_none : (t : Time) → DrawsFor t [] t
@@ -71,10 +71,10 @@ drawn_both m t u v a b = record {
       (draws_both t u v (readings_in a.runs) (readings_in b.runs) a.draws b.draws);
 }
 
-pub runs_made : (m : Plan) (cpu : ℕ) (adjust : ℤ) (runs : List WarpRun) → Along (IsRunOf m cpu) adjusted adjust runs → All (IsMade m) runs
+pub runs_made : (m : Plan) (cpu : ℕ) (adjust : ℤ) (runs : List WarpRun) → Along (IsRunOfCpu m cpu) adjusted adjust runs → All (IsMade m) runs
 runs_made m cpu adjust [] along = All-nil (IsMade m)
 runs_made m cpu adjust (run ∷ runs) along =
     All-cons (IsMade m) run runs (record { cpu = cpu; adjust = adjust; is = along.0 }) (runs_made m cpu (adjusted adjust run) runs along.1)
 
-pub run_of : (m : Plan) (cpu : ℕ) (adjust : ℤ) (t u : Time) (run : WarpRun) → IsPaired m cpu adjust t run u → IsRunOf m cpu adjust run
+pub run_of : (m : Plan) (cpu : ℕ) (adjust : ℤ) (t u : Time) (run : WarpRun) → IsPaired m cpu adjust t run u → IsRunOfCpu m cpu adjust run
 run_of m cpu adjust t u run p = record { run_is = p.run_is; counters = p.counters }

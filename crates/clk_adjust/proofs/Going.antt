@@ -21,7 +21,7 @@ use Rattle.clk_warp.specs.Pairs.{DrawsFor, IsPaired}
 use Rattle.clk_adjust.specs.declared.up.UpOutcome.{UpOutcome}
 use Rattle.clk_adjust.specs.declared.up.CpuUp.{CpuUp}
 use Rattle.clk_machine.specs.declared.parts.BringUpPart.{BringUpPart}
-use Rattle.clk_adjust.specs.BroughtUp.{IsRunOf, adjusted, adjusted_by, AreRunsOf, most_runs, AreMadeAgain, Decides, IsTested}
+use Rattle.clk_adjust.specs.BroughtUp.{IsRunOfCpu, adjusted, adjusted_by, AreRunsOf, most_runs, AreMadeAgain, Decides, IsTested}
 use Rattle.clk_adjust.specs.Tickets.{readings_in, cpu_tickets, HasDrawn}
 use Rattle.clk_adjust.specs.Outcomes.{Brings}
 use Rattle.clk_adjust.proofs.Counters.{readings_by}
@@ -167,7 +167,7 @@ grows m cpu most done t u v runs adjust run h p =
     let both = length-append (readings_in runs) run.readings.items in
     let product : (done + 1) * most_readings m ≡ done * most_readings m + most_readings m = grind arith in
     record {
-      made = along_both (IsRunOf m cpu) adjusted (pos 0) runs (run ∷ []) h.made (subst (λ (z : ℤ). IsRunOf m cpu z run) h.adjust_is is, tt);
+      made = along_both (IsRunOfCpu m cpu) adjusted (pos 0) runs (run ∷ []) h.made (subst (λ (z : ℤ). IsRunOfCpu m cpu z run) h.adjust_is is, tt);
       draws =
           subst (λ (xs : List WarpReading). DrawsFor t xs v) (sym rs)
           (draws_both t u v (readings_in runs) run.readings.items h.draws p.tickets);

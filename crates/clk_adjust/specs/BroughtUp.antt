@@ -1,5 +1,5 @@
--- What a bring-up finds, over its finished lists: of each CPU but the first its warp runs, what its counter was adjusted by,
--- and the outcome. All of it is printed.
+-- What a bring-up finds, over its finished lists: of each CPU but the first its warp runs, what its counter was
+-- adjusted by, and the outcome. All of it is printed.
 use Rattle.std.specs.Prelude.{◌≡◌, ℕ, ◌+◌, ◌-◌, ◌==◌, Bool, true, false, ◌||◌, ℤ, pos, ◌+ℤ◌, List, [], ◌∷◌, ◌++◌, length, Option, Some, None, if◌then◌else◌}
 use Rattle.std.specs.List.{All, list_any}
 use Rattle.clk_base.specs.Walk.{Along, told_after, EachFrom}
@@ -20,7 +20,7 @@ use Rattle.clk_adjust.specs.declared.up.BroughtUp.{BroughtUp}
 -- ---- the runs of a CPU
 
 -- a warp run of this CPU, whose counter is adjusted by so many cycles: each reading is its side's counter at its ticket
-pub record IsRunOf (m : Plan) (cpu : ℕ) (adjust : ℤ) (run : WarpRun) : Type 0 where
+pub record IsRunOfCpu (m : Plan) (cpu : ℕ) (adjust : ℤ) (run : WarpRun) : Type 0 where
   pub run_is : IsWarpRun (limits_in m cpu) run
   pub counters : All (λ r. r.tsc ≡ counter_at m (cpu_of r.side cpu) (adjust_of r.side adjust) r.ticket) run.readings.items
 
@@ -32,7 +32,7 @@ abbrev pub adjusted_by : List WarpRun → ℤ
 adjusted_by runs = told_after adjusted (pos 0) runs
 
 abbrev pub AreRunsOf : Plan → ℕ → List WarpRun → Type 0
-AreRunsOf m cpu runs = Along (IsRunOf m cpu) adjusted (pos 0) runs
+AreRunsOf m cpu runs = Along (IsRunOfCpu m cpu) adjusted (pos 0) runs
 
 -- a CPU has three runs if its counter has the register that adjusts it, and else one
 abbrev pub most_runs : BringUpPart → ℕ
@@ -50,7 +50,8 @@ Decides (verdict.Failed max random) outcome = outcome ≡ Failed
 
 -- ---- a CPU
 
--- a CPU that was tested: each run but the last one is followed by another, with a run fewer left, and the last one decides
+-- a CPU that was tested: each run but the last one is followed by another, with a run fewer left, and the last one
+-- decides
 pub record IsTested (m : Plan) (most : ℕ) (up : CpuUp) : Type 0 where
   pub before : List WarpRun
   pub last : WarpRun
@@ -91,7 +92,8 @@ is_failure Skipped = false
 abbrev pub failed_after : Bool → CpuUp → Bool
 failed_after failed up = failed || is_failure up.outcome
 
--- there is an entry for each CPU from 1, in order. At most one CPU is passed over, and after one that failed no CPU is tested
+-- there is an entry for each CPU from 1, in order. At most one CPU is passed over, and after one that failed no CPU is
+-- tested
 pub record IsBroughtUp (m : Plan) (but : Option ℕ) (up : BroughtUp) : Type 0 where
   pub count : length up.cpus.items + 1 ≡ cpu_count m
   pub numbers : EachFrom (λ n cpu. cpu.cpu ≡ n) 1 up.cpus.items

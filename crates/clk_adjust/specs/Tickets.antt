@@ -9,7 +9,7 @@ use Rattle.clk_warp.specs.declared.side.WarpRun.{WarpRun}
 use Rattle.clk_warp.specs.Run.{most_readings}
 use Rattle.clk_warp.specs.Pairs.{DrawsFor}
 use Rattle.clk_adjust.specs.declared.up.CpuUp.{CpuUp}
-use Rattle.clk_adjust.specs.BroughtUp.{most_runs, IsRunOf}
+use Rattle.clk_adjust.specs.BroughtUp.{most_runs, IsRunOfCpu}
 
 -- the readings of some runs, and those of some CPUs, in order
 abbrev pub readings_in : List WarpRun → List WarpReading
@@ -30,7 +30,7 @@ up_tickets m = (cpu_count m - 1) * cpu_tickets m m.bringup
 pub record IsMade (m : Plan) (run : WarpRun) : Type 0 where
   pub cpu : ℕ
   pub adjust : ℤ
-  pub is : IsRunOf m cpu adjust run
+  pub is : IsRunOfCpu m cpu adjust run
 
 -- the tickets of the readings of some finished runs, and no others, were drawn
 pub record HasDrawn (m : Plan) (before now : Time) : Type 0 where

@@ -22,9 +22,9 @@ use std::thread::Threads;
 /// Brings all CPUs of a machine up: tests each but the first in order, up to one that fails. Without a bring-up each is
 /// `Untested`. The seat has the tickets that the tests may draw, and draws exactly those of their readings, in order.
 ///
-/// It waits for both sides of each run, where the machine has a bring-up and more than one CPU. The memory of the answer is
-/// taken first, and that of a run before the run. The error is want of memory, and leaves drawn the tickets of the runs that
-/// were made.
+/// It waits for both sides of each run, where the machine has a bring-up and more than one CPU. The memory of the
+/// answer is taken first, and that of a run before the run. The error is want of memory, and leaves drawn the tickets
+/// of the runs that were made.
 ///
 /// An adjustment is within 2^47 cycles of 0, and no more tickets are drawn than up to three runs of each CPU take.
 pub fn bring_up<R: Wait + Threads + Sync, G: Gate + Sync>(

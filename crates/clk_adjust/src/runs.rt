@@ -15,8 +15,8 @@ use std::alloc::{AllocError, Global};
 use std::sync::Wait;
 use std::thread::Threads;
 
-/// Tests CPU `cpu`, 1 or more: makes warp runs until one passes or the test has failed. `runs` is empty and has room for
-/// them. The memory of a run is taken before it; the error is want of it.
+/// Tests CPU `cpu`, 1 or more: makes warp runs until one passes or the test has failed. `runs` is empty and has room
+/// for them. The memory of a run is taken before it; the error is want of it.
 pub(crate) fn test_cpu<R: Wait + Threads + Sync, G: Gate + Sync>(
     rt: &R,
     alloc: Global,

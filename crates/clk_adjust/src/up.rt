@@ -15,7 +15,8 @@ pub enum UpOutcome {
     Skipped,
 }
 
-/// The bring-up of one CPU: its warp runs in order, what its counter was adjusted by in all, in cycles, and the outcome.
+/// The bring-up of one CPU: its warp runs in order, what its counter was adjusted by in all, in cycles, and the
+/// outcome.
 #[derive(Drop)]
 pub struct CpuUp {
     pub cpu: u32,

@@ -14,8 +14,8 @@ pub fn consecutive_blocks()
     ensures { ConsecutiveBlocksCover }
 {}
 
-/// The first failing test decides: where some tests refuse, it is with the refusal of one of them before which all pass,
-/// and else all pass.
+/// The first failing test decides: where some tests refuse, it is with the refusal of one of them before which all
+/// pass, and else all pass.
 pub fn first_failing_test<R>()
     ensures { FirstDecides R }
 {}

@@ -23,7 +23,8 @@ pub record Site : Type 0 where
 abbrev pub site_of : {E S : Type 0} → WatchCtx E S → Site
 site_of ctx = record { machine = ctx.machine.now; adjusts = ctx.adjusts.now.items; sched_offset = ctx.sched_offset }
 
--- what its seats have: of the clock words, of the latches, and of the tickets; and the offset and the stamp that it goes by
+-- what its seats have: of the clock words, of the latches, and of the tickets; and the offset and the stamp that it
+-- goes by
 pub record Known : Type 0 where
   pub view : View
   pub epochs : List Epoch
@@ -56,9 +57,9 @@ pub record IsOfMachine {E S : Type 0} (ctx : WatchCtx E S) : Type 0 where
 abbrev pub IsUnlifted : View → Type 0
 IsUnlifted v = (w : ℕ) → w < v.start.cpus → has_lift v.seen w ≡ false
 
--- what every call asks of its context besides the watchdog's right: the offset of the context is the one that the seat's
--- view holds, and the one of the last stable stamp; and the latches and the words begin near the machine's base, so that
--- every raw reading is near the opening of the words
+-- what every call asks of its context besides the watchdog's right: the offset of the context is the one that the
+-- seat's view holds, and the one of the last stable stamp; and the latches and the words begin near the machine's base,
+-- so that every raw reading is near the opening of the words
 pub record IsUsable {E S : Type 0} (fits : E → S → Type 0) (epoch : S → Epoch) (ctx : WatchCtx E S) : Type 0 where
   pub seated : IsSeated fits ctx
   pub of_machine : IsOfMachine ctx

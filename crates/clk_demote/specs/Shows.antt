@@ -40,15 +40,15 @@ pub record ShowsStamp (z : Site) (cpu : ℕ) (v : Known) (gtod_ticket : ℕ) (gt
   pub view_is : w.view ≡ pair_stored cpu gtod raw.ns v.view
 
 -- a stable stamp: that, and the offset, by which the watchdog goes from then on
-pub record ShowsStable (z : Site) (cpu : ℕ) (v : Known) (s : StableStamp) (w : Known) : Type 0 where
+pub record ShowsStableStamp (z : Site) (cpu : ℕ) (v : Known) (s : StableStamp) (w : Known) : Type 0 where
   pub takes : TakesStamp z cpu v s.gtod_ticket s.gtod s.raw w.epochs w.time
   pub offset_is : s.offset ≡ offset_by z.sched_offset s.gtod s.raw.ns
   pub view_is : w.view ≡ offset_put s.offset (pair_stored cpu s.gtod s.raw.ns v.view)
   pub offset_now : w.gtod_offset ≡ s.offset
   pub last_now : w.last ≡ s
 
--- a demotion: a stamp that is stored as the pair of its CPU and then of every CPU, a lift of each word to the opening, and
--- last the mode
+-- a demotion: a stamp that is stored as the pair of its CPU and then of every CPU, a lift of each word to the opening,
+-- and last the mode
 pub record ShowsDemotion (z : Site) (cpu check : ℕ) (v : Known) (d : Demotion) (w : Known) : Type 0 where
   pub takes : TakesStamp z cpu v d.gtod_ticket d.gtod d.raw w.epochs w.time
   pub is : IsDemotion z.sched_offset v.gtod_offset v.last d

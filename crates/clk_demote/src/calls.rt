@@ -11,7 +11,7 @@ ghost use Rattle.clk_demote.specs.Context.{site_of, known_of, IsSeated, IsUsable
 ghost use Rattle.clk_demote.specs.Demotions.{OpensLessDrift};
 ghost use Rattle.clk_demote.specs.Stamping.{pairs_stored};
 ghost use Rattle.clk_demote.specs.Lifts.{lifts_of, lifted};
-ghost use Rattle.clk_demote.specs.Shows.{ShowsStamp, ShowsStable, ShowsDemotion};
+ghost use Rattle.clk_demote.specs.Shows.{ShowsStamp, ShowsStableStamp, ShowsDemotion};
 
 use crate::context::WatchCtx;
 use crate::events::{Demotion, StableStamp};
@@ -22,9 +22,10 @@ use clk_machine::{CpuCounter, RawReading};
 use clk_num::List;
 use clk_words::{Seat, Step, Words};
 
-/// A stable stamp of CPU `cpu`: it stores the CPU's pair, and the offset by which the stamp's GTOD shows what the stable
-/// clock does at its raw reading. Both are the context's from then on. The mode is stable by the seat's view. It draws two
-/// tickets, takes no memory, and waits only where the latch does. After `sched_clock_tick_stable` of Linux 6.1.
+/// A stable stamp of CPU `cpu`: it stores the CPU's pair, and the offset by which the stamp's GTOD shows what the
+/// stable clock does at its raw reading. Both are the context's from then on. The mode is stable by the seat's view. It
+/// draws two tickets, takes no memory, and waits only where the latch does. After `sched_clock_tick_stable` of Linux
+/// 6.1.
 pub fn stable_stamp<E: Epochs>(ctx: &mut WatchCtx<'_, E>, cpu: u32) -> StableStamp
     requires usable { IsUsable E.fits E.epoch ctx.old }
     requires may { MayDemote ctx.old.seat.view }
@@ -34,7 +35,7 @@ pub fn stable_stamp<E: Epochs>(ctx: &mut WatchCtx<'_, E>, cpu: u32) -> StableSta
     ensures usable { IsUsable E.fits E.epoch ctx.new }
     ensures may { MayDemote ctx.new.seat.view }
     ensures spends { Spends 2 ctx.old.time ctx.new.time }
-    ensures shows { ShowsStable (site_of ctx.old) cpu (known_of E.epoch ctx.old) result (known_of E.epoch ctx.new) }
+    ensures shows { ShowsStableStamp (site_of ctx.old) cpu (known_of E.epoch ctx.old) result (known_of E.epoch ctx.new) }
 {
     let stamp = store_stamp(ctx, cpu);
     let offset = stable_offset(ctx.sched_offset, stamp.gtod, stamp.raw.ns);
@@ -51,10 +52,10 @@ pub fn stable_stamp<E: Epochs>(ctx: &mut WatchCtx<'_, E>, cpu: u32) -> StableSta
 }
 
 /// The end of the stable mode, on CPU `cpu`: a stamp, whose pair every CPU gets, a lift of each clock word to where the
-/// clock opens, and last the mode, which is per-CPU from then on. The lifts have the call number `check` and are appended to
-/// `lifts`, which has room for one of each CPU. The context's `gtod_offset` and `last` stay. The mode is stable by the
-/// seat's view. It draws two tickets, takes no memory, and waits only where the latch does. After `__sched_clock_work` of
-/// Linux 6.1.
+/// clock opens, and last the mode, which is per-CPU from then on. The lifts have the call number `check` and are
+/// appended to `lifts`, which has room for one of each CPU. The context's `gtod_offset` and `last` stay. The mode is
+/// stable by the seat's view. It draws two tickets, takes no memory, and waits only where the latch does. After
+/// `__sched_clock_work` of Linux 6.1.
 pub fn demote<E: Epochs>(
     ctx: &mut WatchCtx<'_, E>,
     cpu: u32,
@@ -137,8 +138,8 @@ fn store_stamp<E: Epochs>(ctx: &mut WatchCtx<'_, E>, cpu: u32) -> Stamp
     }
 }
 
-// Stores the pair of the demotion at every CPU, lifts every clock word to where the clock opens, and last makes the mode
-// per-CPU: a reader that finds it so finds the pairs and the words of that time.
+// Stores the pair of the demotion at every CPU, lifts every clock word to where the clock opens, and last makes the
+// mode per-CPU: a reader that finds it so finds the pairs and the words of that time.
 fn end_stable(
     words: &Words,
     seat: &mut Seat,

@@ -6,8 +6,8 @@ use clk_num::List;
 use clk_ticket::{TicketTable, TimeSeat};
 use clk_words::{Seat, Words};
 
-/// What the watchdog stands on: its seats, and the objects that they belong to. The lists have one item for each CPU of the
-/// machine, in order.
+/// What the watchdog stands on: its seats, and the objects that they belong to. The lists have one item for each CPU of
+/// the machine, in order.
 ///
 /// Contracts see `Site` and `Known` of it (`specs/Context.antt`), and `IsUsable` is what each call asks of it.
 #[derive(Drop)]

@@ -1,8 +1,8 @@
 //! What the calls answer.
 use clk_machine::RawReading;
 
-/// A stamp while the clock is stable, at boot or of the watchdog: the ticket and value of monotonic time in ns, 0 to 2^42,
-/// the raw reading after it, and the offset in ns that takes monotonic time to the scheduler clock.
+/// A stamp of the boot, or of the watchdog while the clock is stable: the ticket and value of monotonic time in ns, 0
+/// to 2^42, the raw reading after it, and the offset in ns that takes monotonic time to the scheduler clock.
 #[derive(Clone, Copy, PartialEq, Eq, Debug)]
 pub struct StableStamp {
     pub gtod_ticket: u64,

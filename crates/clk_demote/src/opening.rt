@@ -6,16 +6,16 @@ use crate::events::{Demotion, StableStamp};
 use clk_machine::RawReading;
 use clk_num::above;
 
-/// What takes monotonic time to the scheduler clock, in ns, by a stamp with this GTOD and raw value. `sched_offset` is what
-/// a stable reading adds to the raw clock. It wraps.
+/// What takes monotonic time to the scheduler clock, in ns, by a stamp with this GTOD and raw value. `sched_offset` is
+/// what a stable reading adds to the raw clock. It wraps.
 pub fn stable_offset(sched_offset: i64, gtod: i64, raw: i64) -> i64
     ensures { result ≡ offset_by sched_offset gtod raw }
 {
     raw.wrapping_add(sched_offset).wrapping_sub(gtod)
 }
 
-/// The demotion by a stamp: its GTOD with its ticket, and the raw reading after it. `stable` is the last stable stamp, and
-/// the two offsets, in ns, are those that stand. It changes nothing.
+/// The demotion by a stamp: its GTOD with its ticket, and the raw reading after it. `stable` is the last stable stamp,
+/// and the two offsets, in ns, are those that stand. It changes nothing.
 pub fn demotion_after(
     stable: StableStamp,
     sched_offset: i64,

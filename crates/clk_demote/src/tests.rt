@@ -151,8 +151,8 @@ struct Own {
     time: TimeSeat,
 }
 
-// All objects over a machine of one CPU, a reader's seat at the words, and the watchdog's. The words open stable at 42, and
-// tickets 0 to 32 are drawn, for the boot and a check.
+// All objects over a machine of one CPU, a reader's seat at the words, and the watchdog's. The words open stable at 42,
+// and tickets 0 to 32 are drawn, for the boot and a check.
 fn stand(alloc: Global, machine: Machine) -> Result<(Shared, Seat, Own), AllocError>
     requires cpus { cpu_count machine ≡ 1 }
     ensures machine { IfOk result (λ made. made.0.machine ≡ machine) }

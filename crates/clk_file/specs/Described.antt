@@ -1,5 +1,5 @@
--- The machine that a file's table describes, row by row, with the defaults of keys that may be missing. A key that must be
--- there has 0 or false in its place: a table that lacks it is refused.
+-- The machine that a file's table describes, row by row, with the defaults of keys that may be missing. A key that must
+-- be there has 0 or false in its place: a table that lacks it is refused.
 use Rattle.std.specs.Prelude.{true, false, ℤ, pos, List, [], map, filter_map, codes, unwrap_or, option_map, option_and_then, if◌then◌else◌}
 use Rattle.toml.specs.Data.{Members, no_members, as_str, as_table}
 use Rattle.clk_machine.specs.declared.parts.ReferencePart.{ReferencePart}

@@ -1,4 +1,5 @@
--- Tests of the keys of a table, and the values at them. A test is `None` where it passes, and else what it refuses with.
+-- Tests of the keys of a table, and the values at them. A test is `None` where it passes, and else what it refuses
+-- with.
 use Rattle.std.specs.Prelude.{ℕ, ◌+◌, Bool, true, ◌&&◌, ℤ, List, [], ◌∷◌, Option, Some, None, is_some, unwrap_or, option_and_then}
 use Rattle.std.specs.Option.{option_map_or}
 use Rattle.std.specs.List.{list_any, filter_map}
@@ -13,8 +14,8 @@ use Rattle.clk_file.specs.declared.error.TableError.TheVariants.{Key, Value, Wor
 abbrev pub Test : Type 0
 Test = Option TableError
 
--- A place is the number of the key's row, the number of the entry and that of the item, which are counted from 1: 0 stands
--- where there is none. These refuse a key, a value and a script word at a place.
+-- A place is the number of the key's row, the number of the entry and that of the item, which are counted from 1: 0
+-- stands where there is none. These refuse a key, a value and a script word at a place.
 abbrev pub key_at : Row → ℕ → TableError
 key_at row entry = Key (record { row = number_of row; entry = entry; item = 0 })
 

@@ -17,9 +17,12 @@ spelling (Pause tickets) = codes "pause " ++ signed_decimal tickets
 
 -- a word that has a spelling: its number has at most nine digits, and no sign
 abbrev pub HasSpelling : Word → Type 0
+HasSpelling Local = Unit {0}
 HasSpelling (Remote cpu) = IsWithin 0 999999999 cpu
+HasSpelling Tick = Unit {0}
+HasSpelling Idle = Unit {0}
+HasSpelling Update = Unit {0}
 HasSpelling (Pause tickets) = IsWithin 0 999999999 tickets
-HasSpelling _ = Unit {0}
 
 -- a text is a word exactly where it is that word's spelling
 abbrev pub WordsAreSpelled : Type 0

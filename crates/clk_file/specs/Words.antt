@@ -43,10 +43,12 @@ word_of text =
 
 -- a reader makes readings and pauses alone
 abbrev pub reader_word : Word → Option Word
+reader_word Local = Some Local
+reader_word (Remote cpu) = Some (Remote cpu)
 reader_word Tick = None
 reader_word Idle = None
 reader_word Update = None
-reader_word word = Some word
+reader_word (Pause tickets) = Some (Pause tickets)
 
 -- the word that a text is in the script of a CPU or of a reader
 abbrev pub word_in : Thread → List ℕ → Option Word

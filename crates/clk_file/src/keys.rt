@@ -1,5 +1,5 @@
-//! The tests of a table's keys. Each keeps the first refusal, so that a later one changes nothing, and gives the value, or
-//! what stands for it where there is none.
+//! The tests of a table's keys. Each keeps the first refusal, so that a later one changes nothing, and gives the value,
+//! or what stands for it where there is none.
 ghost use Rattle.std.specs.Prelude.{◌≡◌, ◌≤◌, pos, false, map, option_map, Some, if◌then◌else◌};
 ghost use Rattle.std.specs.Option.{option_or};
 ghost use Rattle.toml.specs.Data.{get_member, as_str, as_integer, as_bool, as_array, as_table};

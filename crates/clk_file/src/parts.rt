@@ -52,8 +52,8 @@ const SECOND_TOP_KEYS: [&str; 15] = [
     "base",
 ];
 
-/// The parts of the machine that a table describes. The first refusal is that of the table's shape: the ranges of the parts
-/// are not tested yet.
+/// The parts of the machine that a table describes. The first refusal is that of the table's shape: the ranges of the
+/// parts are not tested yet.
 pub(crate) fn parts_of(
     alloc: Global,
     top: &Table,

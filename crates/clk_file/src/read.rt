@@ -18,9 +18,9 @@ use toml::Table;
 
 /// The machine that a file's bytes are, at most 1 MiB of them.
 ///
-/// The error is the first failing test, in the order of the rows of the format: `NotToml` exactly where the bytes are no
-/// UTF-8 or no TOML, `Key`, `Value`, `Word` and `Cpu` with the place of the key at fault, and `Tickets` where all else
-/// passes. `Memory` says nothing of the file, and may come before any of them is known.
+/// The error is the first failing test, in the order of the rows of the format: `NotToml` exactly where the bytes are
+/// no UTF-8 or no TOML, `Key`, `Value`, `Word` and `Cpu` with the place of the key at fault, and `Tickets` where all
+/// else passes. `Memory` says nothing of the file, and may come before any of them is known.
 pub fn read_machine(alloc: Global, bytes: &[u8]) -> Result<Machine, FileError>
     requires { length bytes.now ≤ 1048576 }
     ensures machine { IfOk result (λ m. accepted bytes.now ≡ Ok m) }

@@ -150,7 +150,8 @@ fn headers_are_inline_tables(rt: HostRuntime) -> Result<(), Fail> {
     Ok(())
 }
 
-/// What a machine is: its own numbers, the timeouts of its CPUs, its sources, and the words of each thread after repeats.
+/// What a machine is: its own numbers, the timeouts of its CPUs, its sources, and the words of each thread after
+/// repeats.
 fn described(alloc: Global, machine: &Machine) -> Result<String, AllocError> {
     let mut text = format!(in alloc;
         "{} {} {} {} {} {:?} {:?} {:?}",

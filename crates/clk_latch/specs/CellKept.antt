@@ -1,6 +1,6 @@
 -- The rule of a latch over one cell, and what each of its steps tells.
--- A seat knows what it would know of a latch over words that is between two updates: its sequence is twice the number of
--- the record, and both copies hold that.
+-- A seat knows what it would know of a latch over words that is between two updates: its sequence is twice the number
+-- of the record, and both copies hold that.
 use Rattle.std.specs.Prelude.{◌≡◌, ℕ, ◌+◌, ◌*◌, ◌<◌, ◌≤◌, true, false, List, [], ◌∷◌, ◌++◌, length, Option, None}
 use mathlib.Core.Option.{some}
 use mathlib.Core.List.{IsPrefix}

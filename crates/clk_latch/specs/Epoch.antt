@@ -4,8 +4,8 @@ use Rattle.std.specs.Coded.{Coded, code_by, coded×, coded_list, coded_ℕ, code
 use Rattle.atomic_table.specs.Seated.{TableId, table_id_coded}
 use Rattle.clk_machine.specs.declared.reading.Published.{Published}
 
--- what a seat has of a latch: whether it has the owner's right, how many updates are left to it, the records that it has
--- seen, and its begins: the number of the record that each turn of its readings found current
+-- what a seat has of a latch: whether it has the owner's right, how many updates are left to it, the records that it
+-- has seen, and its begins: the number of the record that each turn of its readings found current
 pub record Epoch : Type 0 where
   pub owner : Bool
   pub left : ℕ

@@ -23,12 +23,12 @@ use std::sync::Wait;
 
 type Cell = RuledSeqCell<CellRecord, Knows, OneCell, 3, Global>;
 
-/// The latch over a cell, for a user whose readers may wait. The program itself uses [`crate::Latch`], whose readers never
-/// wait, as those of `sched_clock` in Linux 6.1 may not.
+/// The latch over a cell, for a user whose readers may wait. The program itself uses [`crate::Latch`], whose readers
+/// never wait, as those of `sched_clock` in Linux 6.1 may not.
 ///
-/// A reading that meets another thread at the cell takes the cell's lock: it waits until that is free, and returns if the
-/// calls of the cell do. An update takes the lock too. The latch keeps the runtime value that those calls take. No call but
-/// [`CellLatch::new`] takes memory. A contract sees which cell it is.
+/// A reading that meets another thread at the cell takes the cell's lock: it waits until that is free, and returns if
+/// the calls of the cell do. An update takes the lock too. The latch keeps the runtime value that those calls take. No
+/// call but [`CellLatch::new`] takes memory. A contract sees which cell it is.
 #[derive(Drop)]
 pub struct CellLatch<'a, R: Wait> {
     pub(crate) rt: &'a R,
@@ -46,8 +46,8 @@ impl<'a, R: Wait> Model for CellLatch<'a, R> {
 }
 
 impl<'a, R: Wait> CellLatch<'a, R> {
-    /// A latch with record 0 of a machine, for at most 1,024 updates, and the owner's seat. The error is want of memory. It
-    /// may wait on the cell, though no other thread has it yet.
+    /// A latch with record 0 of a machine, for at most 1,024 updates, and the owner's seat. The error is want of
+    /// memory. It may wait on the cell, though no other thread has it yet.
     pub fn new(
         rt: &'a R,
         alloc: Global,

@@ -59,7 +59,8 @@ impl Outcome<CellRecord, Knows> for Tell {
     ghost then = { Told };
 }
 
-// The record that a write stores, and the updates that it leaves. Its caller picks them, since a step is told words alone.
+// The record that a write stores, and the updates that it leaves. Its caller picks them, since a step is told words
+// alone.
 pub(crate) trait Stored {
     ghost use Rattle.std.specs.Prelude.{ℕ};
     ghost use Rattle.clk_machine.specs.declared.reading.Published.{Published};

@@ -25,8 +25,8 @@ pub(crate) fn cycles_at(counter: CpuCounter<'_>, ticket: u64) -> u64
     counter.machine.counter(counter.cpu, counter.adjust, ticket)
 }
 
-/// The ns that a record gives for a counter value: its own, and those of the cycles since, in a sum that wraps. A counter
-/// that seems to have gone back has not moved.
+/// The ns that a record gives for a counter value: its own, and those of the cycles since, in a sum that wraps. A
+/// counter that seems to have gone back has not moved.
 pub(crate) fn ns_since(machine: &Machine, epoch_cyc: u64, epoch_ns: &i64, cyc: u64) -> i64
     requires limits { IsWithinLimits machine.now }
     requires epoch { epoch_cyc ≤ 83 * 2 ^ 41 }

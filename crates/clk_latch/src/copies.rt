@@ -11,8 +11,8 @@ use clk_num::bits_of;
 use std::marker::Brand;
 
 impl Latch {
-    /// Publishes a record: the second copy gets it, the sequence is raised, the first copy gets it, and the sequence is raised
-    /// again. Readers use the copy that is not written.
+    /// Publishes a record: the second copy gets it, the sequence is raised, the first copy gets it, and the sequence is
+    /// raised again. Readers use the copy that is not written.
     pub(crate) fn publish(&self, seat: &mut Seat<(), Knows>, new: &Published)
         requires own { seat.old.table_id ≡ self.now }
         requires may { MayPublish new.now seat.old.me.0 }

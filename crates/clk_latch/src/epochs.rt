@@ -19,9 +19,9 @@ pub trait Epochs {
 
     ghost epoch: { Self.Seat → Epoch };
 
-    /// The time in ns, which wraps, by the current record, of a counter at the next ticket. The ticket is drawn before the
-    /// first turn, and later turns keep the counter's value. At a [`crate::Latch`] it returns because each further turn saw a
-    /// greater sequence. After `sched_clock` of Linux 6.1.
+    /// The time in ns, which wraps, by the current record, of a counter at the next ticket. The ticket is drawn before
+    /// the first turn, and later turns keep the counter's value. At a [`crate::Latch`] it returns because each further
+    /// turn saw a greater sequence. After `sched_clock` of Linux 6.1.
     fn read(
         &self,
         seat: &mut Self::Seat,
@@ -39,9 +39,9 @@ pub trait Epochs {
         ensures reads { Reads counter.entry.machine.now counter.entry.cpu counter.entry.adjust
             (epoch seat.old) (epoch seat.new) result };
 
-    /// Publishes the record that follows: the counter at the next ticket, and the ns, which wrap, that the current record
-    /// gives for it. The seat is the owner's, has an update left, and has seen the records of this counter, whose tickets
-    /// `time` drew. After `update_sched_clock` of Linux 6.1.
+    /// Publishes the record that follows: the counter at the next ticket, and the ns, which wrap, that the current
+    /// record gives for it. The seat is the owner's, has an update left, and has seen the records of this counter,
+    /// whose tickets `time` drew. After `update_sched_clock` of Linux 6.1.
     fn update(
         &self,
         seat: &mut Self::Seat,

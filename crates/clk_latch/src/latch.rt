@@ -43,7 +43,8 @@ impl Model for Latch {
 }
 
 impl Latch {
-    /// A latch with record 0 of a machine, for at most 1,024 updates, and the owner's seat. The error is want of memory.
+    /// A latch with record 0 of a machine, for at most 1,024 updates, and the owner's seat. The error is want of
+    /// memory.
     pub fn new(
         alloc: Global,
         zero: Published,

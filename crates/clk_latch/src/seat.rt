@@ -6,8 +6,8 @@ use std::marker::Model;
 
 /// A thread's place at a [`crate::Latch`]. The owner's has its current record at hand, and a reader's nothing.
 ///
-/// A contract sees it as a `Place`: `latch` says which latch it belongs to, and `epoch` what it has of it: whether it has
-/// the owner's right, the updates that are left to it, the records that it has seen, and its begins.
+/// A contract sees it as a `Place`: `latch` says which latch it belongs to, and `epoch` what it has of it: whether it
+/// has the owner's right, the updates that are left to it, the records that it has seen, and its begins.
 #[derive(Drop)]
 pub struct LatchSeat {
     pub(crate) seat: Seat<(), Knows>,

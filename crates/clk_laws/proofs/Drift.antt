@@ -1,5 +1,5 @@
--- The stamp by which a lawful demotion goes has the offset of the stable clock, so the demotion opens at the stable value of
--- its raw reading less the drift.
+-- The stamp by which a lawful demotion goes has the offset of the stable clock, so the demotion opens at the stable
+-- value of its raw reading less the drift.
 use Rattle.std.proofs.Common.{◌≡◌, ℕ, ◌<◌, ℤ, pos, ◌+ℤ◌, ◌-ℤ◌, Bool, true, false, ◌&&◌, is_some, if◌then◌else◌, List, [], ◌∷◌, flat_map, length, Option, Some, None, ◌⊎◌, inl, inr, refl, sym, ap, ◌∙◌, subst, arith, All}
 use Rattle.std.proofs.lemmas.Int.{ints}
 use Rattle.std.proofs.lemmas.List.Elements.{All-head, All-tail}

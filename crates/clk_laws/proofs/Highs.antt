@@ -1,5 +1,5 @@
--- No step of a lawful trace finds or leaves a word below its opening: the first line of a history rises from there, the later
--- ones are at least as high, and the histories show every step.
+-- No step of a lawful trace finds or leaves a word below its opening: the first line of a history rises from there, the
+-- later ones are at least as high, and the histories show every step.
 use Rattle.std.proofs.Common.{◌≡◌, ℕ, suc, ◌+◌, ℤ, pos, ◌≤ℤ◌, false, List, [], ◌∷◌, ◌++◌, map, filter, flat_map, length, Bool, ◌==◌, Option, Some, None, refl, sym, ap, ◌∙◌, subst, arith, All, IsSorted, int_cmp, nat_cmp, is_lt, Ordering, Less, Equal, Greater}
 use Rattle.std.specs.List.{AllZip}
 use Rattle.std.specs.Ordering.{ordering_then, bool_cmp}
@@ -19,7 +19,7 @@ use Rattle.clk_trace.specs.LawfulTrace.{IsLawful}
 use Rattle.clk_trace.specs.LegalHistory.{ReachesTarget, IsLegalHistory}
 use Rattle.clk_trace.specs.Lines.{Line, step_line}
 use Rattle.clk_trace.specs.Lines.Line.{Step as StepLine}
-use Rattle.clk_trace.specs.SeenBefore.{Seen, seen_at, shown_by_kind, base_of, NeverFalls}
+use Rattle.clk_trace.specs.SeenBefore.{Seen, seen_at, shown_by_kind, stood_at, IsAboveSeen, NeverFalls}
 use Rattle.clk_trace.specs.Standing.{lifts_by}
 use Rattle.clk_trace.specs.WordHistory.{Placed, steps_of_kind, steps_from, all_steps, placed_lift, lift_steps, steps_of, steps_on, line_of, is_flat, history_cmp}
 use Rattle.clk_trace.specs.declared.event.Event.{Event}
@@ -28,7 +28,7 @@ use Rattle.clk_trace.specs.declared.event.EventKind.TheVariants.{Stable, Local, 
 use Rattle.clk_trace.specs.declared.trace.HistoryStep.{HistoryStep}
 use Rattle.clk_trace.specs.declared.trace.WatchTrace.{WatchTrace}
 use Rattle.clk_trace.specs.declared.trace.Trace.{Trace}
-use Rattle.clk_laws.specs.Seeing.{found_by_kind, LoadsNoneBelow, NoneLoadedBelow}
+use Rattle.clk_laws.specs.Seeing.{found_by_kind}
 
 -- not below the opening
 abbrev pub IsHigh : ℤ → ℤ → Type 0
@@ -184,52 +184,52 @@ last_ones : {A : Type 0} (P : A → Type 0) (xs ys : List A) → All P (xs ++ ys
 last_ones P [] ys h = h
 last_ones P (x ∷ xs) ys h = last_ones P xs ys (All-tail P x (xs ++ ys) h)
 
-kind_high : (o : ℤ) (thread cpu call part : ℕ) (k : EventKind) → All (IsHighPlaced o) (steps_of_kind thread cpu call part k) → LoadsNoneBelow o k → ShowsNoneBelow o cpu k
-kind_high o thread cpu call part (Stable raw value) h loads = All-nil (λ (x : Seen). IsHigh o x.value)
-kind_high o thread cpu call part (Local raw tick_raw tick_gtod offset old new) h loads =
+kind_high : (o : ℤ) (base : ℕ → ℤ) (seen : List Seen) (thread cpu call part : ℕ) (k : EventKind) → All (IsHighPlaced o) (steps_of_kind thread cpu call part k)
+    → IsAboveSeen o base cpu seen k → ShowsNoneBelow o cpu k
+kind_high o base seen thread cpu call part (Stable raw value) h found = All-nil (λ (x : Seen). IsHigh o x.value)
+kind_high o base seen thread cpu call part (Local raw tick_raw tick_gtod offset old new) h found =
     let both : AreHigh o old new = All-head (IsHighPlaced o) _ [] h in
     let V : Seen → Type 0 = λ x. IsHigh o x.value in
     All-cons V (seen_at cpu old) (seen_at cpu new ∷ []) both.found (All-cons V (seen_at cpu new) [] both.left (All-nil V))
-kind_high o thread cpu call part (Couple asked own other word old new) h loads =
+kind_high o base seen thread cpu call part (Couple asked own other word old new) h found =
     let both : AreHigh o old new = All-head (IsHighPlaced o) _ [] h in
     let V : Seen → Type 0 = λ x. IsHigh o x.value in
     let a : Seen = seen_at cpu own in
     let b : Seen = seen_at asked other in
     let c : Seen = seen_at word new in
-    let shown = All-cons V a (b ∷ c ∷ []) loads.0 (All-cons V b (c ∷ []) loads.1 (All-cons V c [] both.left (All-nil V))) in
+    let first : IsHigh o own = found.0.over_opening in
+    let second : IsHigh o other = found.1.over_opening in
+    let shown = All-cons V a (b ∷ c ∷ []) first (All-cons V b (c ∷ []) second (All-cons V c [] both.left (All-nil V))) in
     let step = All-cons V (seen_at word old) (a ∷ b ∷ c ∷ []) both.found shown in
-    All-cons V a (b ∷ seen_at word old ∷ a ∷ b ∷ c ∷ []) loads.0 (All-cons V b (seen_at word old ∷ a ∷ b ∷ c ∷ []) loads.1 step)
-kind_high o thread cpu call part (Stamp gtod_ticket gtod raw) h loads = All-nil (λ (x : Seen). IsHigh o x.value)
-kind_high o thread cpu call part Nothing h loads = All-nil (λ (x : Seen). IsHigh o x.value)
-kind_high o thread cpu call part (Update p) h loads = All-nil (λ (x : Seen). IsHigh o x.value)
-kind_high o thread cpu call part (Pause ticket count) h loads = All-nil (λ (x : Seen). IsHigh o x.value)
+    All-cons V a (b ∷ seen_at word old ∷ a ∷ b ∷ c ∷ []) first (All-cons V b (seen_at word old ∷ a ∷ b ∷ c ∷ []) second step)
+kind_high o base seen thread cpu call part (Stamp gtod_ticket gtod raw) h found = All-nil (λ (x : Seen). IsHigh o x.value)
+kind_high o base seen thread cpu call part Nothing h found = All-nil (λ (x : Seen). IsHigh o x.value)
+kind_high o base seen thread cpu call part (Update p) h found = All-nil (λ (x : Seen). IsHigh o x.value)
+kind_high o base seen thread cpu call part (Pause ticket count) h found = All-nil (λ (x : Seen). IsHigh o x.value)
 
-events_high : (o : ℤ) (thread cpu part : ℕ) (es : List Event) → All (IsHighPlaced o) (steps_from thread cpu part es) → All (λ e. LoadsNoneBelow o e.kind) es
-    → All (λ e. ShowsNoneBelow o cpu e.kind) es
-events_high o thread cpu part [] h loads = All-nil (λ (e : Event). ShowsNoneBelow o cpu e.kind)
-events_high o thread cpu part (e ∷ es) h loads =
-    let L : Event → Type 0 = λ f. LoadsNoneBelow o f.kind in
+events_high : (o : ℤ) (base : ℕ → ℤ) (seen : List Seen) (thread cpu part : ℕ) (es : List Event) → All (IsHighPlaced o) (steps_from thread cpu part es)
+    → NeverFalls o base cpu seen es → All (λ e. ShowsNoneBelow o cpu e.kind) es
+events_high o base seen thread cpu part [] h found = All-nil (λ (e : Event). ShowsNoneBelow o cpu e.kind)
+events_high o base seen thread cpu part (e ∷ es) h found =
     let here : List Placed = steps_of_kind thread cpu e.call part e.kind in
     let rest : List Placed = steps_from thread cpu (part + 1) es in
     All-cons
     (λ (f : Event). ShowsNoneBelow o cpu f.kind)
     e
     es
-    (kind_high o thread cpu e.call part e.kind (first_ones (IsHighPlaced o) here rest h) (All-head L e es loads))
-    (events_high o thread cpu (part + 1) es (last_ones (IsHighPlaced o) here rest h) (All-tail L e es loads))
+    (kind_high o base seen thread cpu e.call part e.kind (first_ones (IsHighPlaced o) here rest h) found.0)
+    (events_high o base (seen ++ shown_by_kind cpu e.kind) thread cpu (part + 1) es (last_ones (IsHighPlaced o) here rest h) found.1)
 
 threads_high : (o : ℤ) (base : ℕ → ℤ) (n : ℕ) (cpus : List ℕ) (threads : List (Listed Event)) → AllZip (λ cpu es. NeverFalls o base cpu [] es.items) cpus threads
-    → All (IsHighPlaced o) (all_steps n cpus threads) → All (λ es. All (λ e. LoadsNoneBelow o e.kind) es.items) threads
-    → AllZip (λ cpu es. All (λ e. ShowsNoneBelow o cpu e.kind) es.items) cpus threads
-threads_high o base n [] [] pairs h loads = tt
-threads_high o base n [] (es ∷ threads) pairs h loads = absurd pairs
-threads_high o base n (cpu ∷ cpus) [] pairs h loads = absurd pairs
-threads_high o base n (cpu ∷ cpus) (es ∷ threads) pairs h loads =
-    let L : Listed Event → Type 0 = λ l. All (λ (e : Event). LoadsNoneBelow o e.kind) l.items in
+    → All (IsHighPlaced o) (all_steps n cpus threads) → AllZip (λ cpu es. All (λ e. ShowsNoneBelow o cpu e.kind) es.items) cpus threads
+threads_high o base n [] [] found h = tt
+threads_high o base n [] (es ∷ threads) found h = absurd found
+threads_high o base n (cpu ∷ cpus) [] found h = absurd found
+threads_high o base n (cpu ∷ cpus) (es ∷ threads) found h =
     let here : List Placed = steps_from n cpu 0 es.items in
     let rest : List Placed = all_steps (n + 1) cpus threads in (
-      events_high o n cpu 0 es.items (first_ones (IsHighPlaced o) here rest h) (All-head L es threads loads),
-      threads_high o base (n + 1) cpus threads pairs.1 (last_ones (IsHighPlaced o) here rest h) (All-tail L es threads loads),
+      events_high o base [] n cpu 0 es.items (first_ones (IsHighPlaced o) here rest h) found.0,
+      threads_high o base (n + 1) cpus threads found.1 (last_ones (IsHighPlaced o) here rest h),
     )
 
 lifts_high : (o : ℤ) (w : Option WatchTrace) → All (IsHighPlaced o) (lift_steps w) → All (λ s. IsHigh o s.new) (lifts_by w)
@@ -242,12 +242,12 @@ lifts_high o (Some w) h =
     w.lifts.items
     (of_each (IsHighPlaced o) (placed_lift w.thread) w.lifts.items h)
 
-pub none_below : (m : Plan) (t : Trace) → IsLawful m t → NoneLoadedBelow t → HasNoneBelow t
-none_below m t h loads =
+pub none_below : (m : Plan) (t : Trace) → IsLawful m t → HasNoneBelow t
+none_below m t h =
     let o : ℤ = t.start_word in
     let scripts : List Placed = all_steps 0 t.cpu_of.items t.threads.items in
     let all = steps_high m t h in
     record {
       lifts = lifts_high o t.watch (last_ones (IsHighPlaced o) scripts (lift_steps t.watch) all);
-      threads = threads_high o (base_of t) 0 t.cpu_of.items t.threads.items h.seen (first_ones (IsHighPlaced o) scripts (lift_steps t.watch) all) loads;
+      threads = threads_high o (stood_at t) 0 t.cpu_of.items t.threads.items h.seen (first_ones (IsHighPlaced o) scripts (lift_steps t.watch) all);
     }

@@ -12,7 +12,7 @@ use Rattle.clk_num.specs.Listed.{Listed}
 use Rattle.clk_words.specs.declared.step.Step.{Step}
 use Rattle.clk_words.specs.LowerWord.{is_lower}
 use Rattle.clk_trace.specs.Couples.{CouplesLower}
-use Rattle.clk_trace.specs.SeenBefore.{Seen, seen_at, shown_by_kind, higher, highest, values_on, base_of, seen_of, IsAboveSeen, NeverFalls}
+use Rattle.clk_trace.specs.SeenBefore.{Seen, seen_at, shown_by_kind, higher, highest, values_on, stood_at, seen_of, IsAboveSeen, NeverFalls}
 use Rattle.clk_trace.specs.Standing.{lifted_from, lifts_by}
 use Rattle.clk_trace.specs.declared.event.Event.{Event}
 use Rattle.clk_trace.specs.declared.event.EventKind.{EventKind}
@@ -137,11 +137,11 @@ kind_above : (o : ℤ) (base : ℕ → ℤ) (cpu : ℕ) (seen : List Seen) (k : 
     → IsAboveSeen o base cpu seen k → All (FindsAbove seen) (found_by_kind cpu k)
 kind_above o base cpu seen (Stable raw value) near p c h = All-nil (FindsAbove seen)
 kind_above o base cpu seen (Local raw tick_raw tick_gtod offset old new) near p c h =
-    All-cons (FindsAbove seen) (seen_at cpu old) [] (finds_above o base seen cpu old near (p 0 (seen_at cpu old) (omega arith)) h) (All-nil (FindsAbove seen))
+    All-cons (FindsAbove seen) (seen_at cpu old) [] (finds_above o base seen cpu old near (p 0 (seen_at cpu old) (omega arith)) h.over_seen) (All-nil (FindsAbove seen))
 kind_above o base cpu seen (Couple asked own other word old new) near p c h =
     let d : Seen = seen_at cpu own in
-    let first = finds_above o base seen cpu own near (p 0 d (omega arith)) h.0 in
-    let second = finds_above o base seen asked other near (p 1 d (omega arith)) h.1 in
+    let first = finds_above o base seen cpu own near (p 0 d (omega arith)) h.0.over_seen in
+    let second = finds_above o base seen asked other near (p 1 d (omega arith)) h.1.over_seen in
     let third =
     step_above o seen cpu asked own other (is_lower other own) word old near.values (p 0 d (omega arith)) (p 1 d (omega arith)) (p 2 d (omega arith)) c.0 c.1 first second in
     All-cons
@@ -238,11 +238,11 @@ all_rise o base near (cpu ∷ cpus) (es ∷ threads) p c h =
     (none_falls o base cpu [] es.items begun p.0 c.0 h.0, all_rise o base near cpus threads p.1 c.1 h.1)
 
 pub no_word_falls : NoWordFalls
-no_word_falls m t h loads =
-    let high = none_below m t h loads in
+no_word_falls m t h =
+    let high = none_below m t h in
     all_rise
     t.start_word
-    (base_of t)
+    (stood_at t)
     (λ w. lifted_near t.start_word (lifts_by t.watch) w high.lifts)
     t.cpu_of.items
     t.threads.items

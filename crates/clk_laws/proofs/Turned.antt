@@ -1,17 +1,17 @@
--- A thread that has made a per-CPU reading finds no stable clock after that, and without a demotion a stable clock has no
--- per-CPU events.
+-- A thread that has made a per-CPU reading finds no stable clock after that, and without a demotion a stable clock has
+-- no per-CPU events.
 use Rattle.std.proofs.Common.{◌≡◌, ℤ, Bool, true, false, List, [], ◌∷◌, Option, Some, None, refl, subst, arith, All, AllPairs, IsTrue, IsFalse}
 use Rattle.std.proofs.lemmas.List.Elements.{All-nil, All-cons, All-weaker}
 use Rattle.std.proofs.lemmas.List.Kept.{AllPairs-cons}
 use Rattle.clk_base.specs.Walk.{Along}
 use Rattle.clk_num.specs.Listed.{Listed}
 use Rattle.clk_demote.specs.declared.events.Demotion.{Demotion}
-use Rattle.clk_trace.specs.Modes.{Modes, modes_of, IsOfMode, turned_after}
+use Rattle.clk_trace.specs.Modes.{shows_stable, shows_percpu, reads_percpu, Modes, modes_of, IsOfMode, turned_after}
 use Rattle.clk_trace.specs.Standing.{either_demotion, demotion_by}
 use Rattle.clk_trace.specs.declared.event.Event.{Event}
 use Rattle.clk_trace.specs.declared.event.EventKind.{EventKind}
 use Rattle.clk_trace.specs.declared.event.EventKind.TheVariants.{Stable, Local, Couple, Stamp, Nothing, Update, Pause}
-use Rattle.clk_laws.specs.Turning.{shows_stable, shows_percpu, reads_percpu, StaysPerCpu, NoStableAfterPerCpu, NoPerCpuUndemoted}
+use Rattle.clk_laws.specs.Turning.{StaysPerCpu, NoStableAfterPerCpu, NoPerCpuUndemoted}
 
 -- the events of a thread, of which some that read per-CPU may have been before
 abbrev AreOfMode : Modes → ℤ → Bool → List Event → Type 0

@@ -1,5 +1,5 @@
 -- No thread sees a clock word fall.
-use Rattle.std.specs.Prelude.{◌≡◌, ℕ, ℤ, List, [], ◌∷◌, All, AllPairs}
+use Rattle.std.specs.Prelude.{◌≡◌, ℕ, List, [], ◌∷◌, All, AllPairs}
 use Rattle.std.specs.List.{AllZip}
 use Rattle.clk_num.specs.Wrapping.{IsNotBelow}
 use Rattle.clk_machine.specs.Plan.{Plan}
@@ -24,25 +24,9 @@ abbrev pub FindsNoLess : ℕ → EventKind → EventKind → Type 0
 FindsNoLess cpu before after =
     All (λ y. All (λ x. x.word ≡ y.word → IsNotBelow y.value x.value) (shown_by_kind cpu before)) (found_by_kind cpu after)
 
--- ---- where signs of differences tell the order
-
--- what a coupling loaded of the two words is not below the opening; no step leaves a word there
-abbrev pub LoadsNoneBelow : ℤ → EventKind → Type 0
-LoadsNoneBelow opening (Stable raw value) = Unit {0}
-LoadsNoneBelow opening (Local raw tick_raw tick_gtod offset old new) = Unit {0}
-LoadsNoneBelow opening (Couple asked own other word old new) = IsNotBelow own opening × IsNotBelow other opening
-LoadsNoneBelow opening (Stamp gtod_ticket gtod raw) = Unit {0}
-LoadsNoneBelow opening Nothing = Unit {0}
-LoadsNoneBelow opening (Update p) = Unit {0}
-LoadsNoneBelow opening (Pause ticket count) = Unit {0}
-
-abbrev pub NoneLoadedBelow : Trace → Type 0
-NoneLoadedBelow t = All (λ es. All (λ e. LoadsNoneBelow t.start_word e.kind) es.items) t.threads.items
-
 -- in each thread, of each event and each later one
 abbrev pub NoWordFalls : Type 0
 NoWordFalls =
     (m : Plan) (t : Trace)
     → IsLawful m t
-    → NoneLoadedBelow t
     → AllZip (λ cpu es. AllPairs (λ e f. FindsNoLess cpu e.kind f.kind) es.items) t.cpu_of.items t.threads.items

@@ -1,5 +1,5 @@
--- Lemmas on raising a word: raw readings are near the opening of the words, the pair that was loaded may be named, and what
--- a step finds is not below what was seen of its word.
+-- Lemmas on raising a word: raw readings are near the opening of the words, the pair that was loaded may be named, and
+-- what a step finds is not below what was seen of its word.
 use Rattle.std.proofs.Common.{◌≡◌, ℕ, ◌*◌, ◌^◌, ℤ, List, [], ◌∷◌, ◌++◌, get_or, refl, sym, ap, ◌∙◌, subst, arith}
 use Rattle.std.proofs.lemmas.Int.{ints}
 use mathlib.Core.List.{IsPrefix}

@@ -14,7 +14,8 @@ use Rattle.clk_machine.specs.declared.reading.Published.{Published}
 use Rattle.clk_latch.specs.Epoch.{Epoch}
 use Rattle.clk_local.specs.declared.context.Ctx.{Ctx}
 
--- where a thread stands, what it adds to a stable reading, and its own number for the call: what its calls do not change
+-- where a thread stands, what it adds to a stable reading, and its own number for the call: what its calls do not
+-- change
 pub record Site : Type 0 where
   pub machine : Plan
   pub cpu : ℕ
@@ -38,9 +39,9 @@ known_of epoch ctx = record { view = ctx.seat.view; epoch = epoch ctx.latch_seat
 pub record BeginsAtBase (m : Plan) (e : Epoch) : Type 0 where
   pub zero : (d : Published) → (slice_index_or e.records 0 d).ns ≡ base_of m
 
--- what every call asks of its context: each seat belongs to its object, the words' seat shows a CPU's kind, the counter is
--- that CPU's, the words were made with the machine's tick, and the latch and the words begin near the machine's base, so
--- that every raw reading is near the opening of the words
+-- what every call asks of its context: each seat belongs to its object, the words' seat shows a CPU's kind, the counter
+-- is that CPU's, the words were made with the machine's tick, and the latch and the words begin near the machine's
+-- base, so that every raw reading is near the opening of the words
 pub record IsUsable {E S : Type 0} (fits : E → S → Type 0) (epoch : S → Epoch) (ctx : Ctx E S) : Type 0 where
   pub of_words : place_of ctx.seat ≡ ctx.words.now
   pub of_latch : fits ctx.epochs.now ctx.latch_seat

@@ -1,6 +1,6 @@
--- What each call shows, as the events of a trace do: a look at the mode, a stable reading, a raised reading, a stamp, and
--- what a tick and an idle event make of them. Each is told of what the thread's seats had before it and after it, so that
--- the events of a thread are a chain.
+-- What each call shows, as the events of a trace do: a look at the mode, a stable reading, a raised reading, a stamp,
+-- and what a tick and an idle event make of them. Each is told of what the thread's seats had before it and after it,
+-- so that the events of a thread are a chain.
 use Rattle.std.specs.Prelude.{◌≡◌, ℕ, ℤ, ◌+ℤ◌, [], ◌∷◌, ◌++◌}
 use Rattle.clk_num.specs.Wrapping.{wrap, IsNotBelow}
 use Rattle.clk_ticket.specs.Time.{Time}
@@ -41,8 +41,8 @@ pub record ShowsStable (z : Site) (v : Known) (raw : RawReading) (value : ℤ) (
   pub value_is : value ≡ wrap (raw.ns +ℤ z.sched_offset)
   pub view_is : w.view ≡ v.view
 
--- a raised reading: a raw reading, then the loads of the pair and of the offset, and then one step that raises the word to
--- the target of those
+-- a raised reading: a raw reading, then the loads of the pair and of the offset, and then one step that raises the word
+-- to the target of those
 pub record ShowsRaised (z : Site) (v : Known) (raw : RawReading) (step : Step) (w : Known) : Type 0 where
   pub tick_raw : ℤ
   pub tick_gtod : ℤ

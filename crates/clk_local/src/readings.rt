@@ -16,8 +16,8 @@ use clk_latch::Epochs;
 use clk_machine::RawReading;
 use clk_words::{Mode, Seat, Step, Why, Words};
 
-/// A local read: a look at the mode, and then a stable or a raised reading by what it found. It draws one ticket, and takes
-/// no memory and does not wait. After `local_clock` of Linux 6.1.
+/// A local read: a look at the mode, and then a stable or a raised reading by what it found. It draws one ticket,
+/// takes no memory, and waits only where the latch does. After `local_clock` of Linux 6.1.
 pub fn local<E: Epochs>(ctx: &mut Ctx<'_, E>) -> Reading
     requires usable { IsUsable E.fits E.epoch ctx.old }
     requires ticket { 1 ≤ ctx.old.time.left }
@@ -37,8 +37,9 @@ pub fn local<E: Epochs>(ctx: &mut Ctx<'_, E>) -> Reading
     }
 }
 
-/// The per-CPU part of a local read: the raw reading and the step whose new value is the reading. The seat has found the
-/// mode per-CPU. It draws one ticket, and takes no memory and does not wait. After `sched_clock_local` of Linux 6.1.
+/// The per-CPU part of a local read: the raw reading and the step whose new value is the reading. The seat has found
+/// the mode per-CPU. It draws one ticket, takes no memory, and waits only where the latch does. After
+/// `sched_clock_local` of Linux 6.1.
 pub fn local_raised<E: Epochs>(ctx: &mut Ctx<'_, E>) -> (RawReading, Step)
     requires usable { IsUsable E.fits E.epoch ctx.old }
     requires found { HasFoundPerCpu ctx.old.seat.view }
@@ -77,8 +78,8 @@ fn local_stable<E: Epochs>(ctx: &mut Ctx<'_, E>) -> (RawReading, i64)
     (raw, raw.ns.wrapping_add(ctx.sched_offset))
 }
 
-// Loads what a reading goes by, the raw half of the pair first: a reader that is caught between the two stores of a stamp
-// gets a GTOD that is not older than its raw value, and so does not fall behind.
+// Loads what a reading goes by, the raw half of the pair first: a reader that is caught between the two stores of a
+// stamp gets a GTOD that is not older than its raw value, and so does not fall behind.
 fn load_why(words: &Words, seat: &mut Seat, raw: i64) -> Why
     requires own { place_of seat.old ≡ words.now }
     requires found { HasFoundPerCpu seat.old.view }

@@ -11,9 +11,9 @@ use clk_latch::Epochs;
 use clk_machine::RawReading;
 use clk_words::Mode;
 
-/// A tick: a look at the mode, and nothing if it is stable, else a stamp, and a local read that goes by it. The seat may
-/// stamp its CPU, and as many raws as GTODs follow stamp 0 by its view. It draws three tickets where it stamps, else none,
-/// and takes no memory and does not wait. After `sched_clock_tick` of Linux 6.1.
+/// A tick: a look at the mode, and nothing if it is stable, else a stamp, and a local read that goes by it. The seat
+/// may stamp its CPU, and as many raws as GTODs follow stamp 0 by its view. It draws three tickets where it stamps,
+/// else none, takes no memory, and waits only where the latch does. After `sched_clock_tick` of Linux 6.1.
 pub fn tick<E: Epochs>(ctx: &mut Ctx<'_, E>) -> TickEvent
     requires usable { IsUsable E.fits E.epoch ctx.old }
     requires stamp { MayStamp ctx.old.seat.view }
@@ -28,8 +28,9 @@ pub fn tick<E: Epochs>(ctx: &mut Ctx<'_, E>) -> TickEvent
     }
 }
 
-/// An idle event: a local read, and then a tick with its conditions, each with a look of its own. It draws one ticket and
-/// then those of the tick, and takes no memory and does not wait. After `sched_clock_idle_wakeup_event` of Linux 6.1,
+/// An idle event: a local read, and then a tick with its conditions, each with a look of its own. It draws one ticket
+/// and then those of the tick, takes no memory, and waits only where the latch does. After
+/// `sched_clock_idle_wakeup_event` of Linux 6.1,
 /// which has the tick alone.
 pub fn idle<E: Epochs>(ctx: &mut Ctx<'_, E>) -> IdleEvent
     requires usable { IsUsable E.fits E.epoch ctx.old }

@@ -18,7 +18,7 @@ use Rattle.clk_machine.specs.declared.parts.WatchPart.{WatchPart}
 use Rattle.clk_machine.specs.Plan.{Plan, ScriptPlan, JumpPlan, DelayPlan, CpuPlan, ReaderPlan, SourcePlan, count_of, cpu_count}
 use Rattle.clk_machine.specs.Limits.{most_cpus, ticket_limit, longest_pause, IsWithin, IsWidth, IsNumberOfCpu, IsInRange, is_update, IsScript, jump_sizes, TimesRise, AreJumps, TicketsRise, AreDelays, IsCpu, IsReader, IsBringUp, IsWatch, IsSource, IsOwn, IfThere, AreInRange}
 use Rattle.clk_machine.specs.Short.{IsShortReader, IsShortSource, IsWellFormed}
-use Rattle.clk_machine.specs.Ranges.{Test, value_at, cpu_at, is_between, ranges, is_width, is_cpu, at_most, jump_test, after_jump, jumps_test, script_length, script_updates, word_test, script_tests, cpu_tests, reader_tests, words_of_cpus, delay_tests, after_delay, each_delay, bring_up_tests, watch_tests, other_tests, source_tests, number_tests, reference_tests, thread_tests, other_part_tests, part_tests}
+use Rattle.clk_machine.specs.Ranges.{Test, value_at, cpu_fault, is_between, ranges, is_width, is_cpu, at_most, jump_test, after_jump, jumps_test, script_length, script_updates, word_test, script_tests, cpu_tests, reader_tests, words_of_cpus, delay_tests, after_delay, each_delay, bring_up_tests, watch_tests, other_tests, source_tests, number_tests, reference_tests, thread_tests, other_part_tests, part_tests}
 use Rattle.clk_machine.proofs.Passing.{within-between}
 use Rattle.clk_machine.proofs.Counting.{length-repeat, sum_by-repeat, threads_length}
 
@@ -90,7 +90,7 @@ words_pass cpus row entry n (w ∷ ws) h =
   where
     word_passes : (v : Word) → word_test cpus row entry n v ≡ None → IsInRange cpus v
     word_passes Local e = tt
-    word_passes (Remote d) e = cpu_is cpus d (unless-passed (is_cpu cpus d) (cpu_at row entry n) e)
+    word_passes (Remote d) e = cpu_is cpus d (unless-passed (is_cpu cpus d) (cpu_fault row entry n) e)
     word_passes Tick e = tt
     word_passes Idle e = tt
     word_passes Update e = tt
@@ -150,12 +150,12 @@ readers_pass : (cpus before n : ℕ) (rs : List ReaderPlan) → before ≤ 52428
 readers_pass cpus before n [] small formed h = (All-nil (IsReader cpus), omega arith)
 readers_pass cpus before n (r ∷ rs) small formed h =
     let passed = each_told-passed (λ words entry (d : ReaderPlan). first (reader_tests cpus entry words d)) (λ words d. words + script_length d.script) before n r rs h in
-    let cpu = first-passed (unless (is_cpu cpus r.cpu) (cpu_at rows.ReaderCpu n 0)) (script_tests cpus rows.ReaderRepeat rows.ReaderScript n before r.script) passed.0 in
+    let cpu = first-passed (unless (is_cpu cpus r.cpu) (cpu_fault rows.ReaderCpu n 0)) (script_tests cpus rows.ReaderRepeat rows.ReaderScript n before r.script) passed.0 in
     let script = script_passes cpus rows.ReaderRepeat rows.ReaderScript n before r.script cpu.1 in
     let (all, sum) = readers_pass cpus (before + script_length r.script) (n + 1) rs script.1 (All-tail IsShortReader r rs formed) passed.1 in
     let whole = sum_by-cons (λ (d : ReaderPlan). script_length d.script) r rs in (
       All-cons (IsReader cpus) r rs (record {
-        cpu = cpu_is cpus r.cpu (unless-passed (is_cpu cpus r.cpu) (cpu_at rows.ReaderCpu n 0) cpu.0);
+        cpu = cpu_is cpus r.cpu (unless-passed (is_cpu cpus r.cpu) (cpu_fault rows.ReaderCpu n 0) cpu.0);
         script = script.0;
         words = (All-head IsShortReader r rs formed).kinds;
       }) all,

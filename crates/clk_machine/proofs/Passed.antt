@@ -21,7 +21,7 @@ use Rattle.clk_machine.specs.declared.error.MachineError.TheVariants.{Tickets}
 use Rattle.clk_machine.specs.Plan.{Plan, ScriptPlan, JumpPlan, DelayPlan, CpuPlan, ReaderPlan, SourcePlan, count_of, cpu_count}
 use Rattle.clk_machine.specs.Limits.{most_cpus, ticket_limit, longest_pause, IsWithin, IsWidth, IsNumberOfCpu, IsInRange, is_update, IsScript, jump_sizes, TimesRise, AreJumps, TicketsRise, IsReference, IsCpu, IsReader, IsBringUp, IsWatch, IsSource, IfThere, AreInRange}
 use Rattle.clk_machine.specs.Tickets.{tickets_needed}
-use Rattle.clk_machine.specs.Ranges.{Test, value_at, cpu_at, is_between, ranges, is_width, is_cpu, at_most, jump_test, after_jump, jumps_test, script_length, script_updates, word_test, script_tests, cpu_tests, reader_tests, words_of_cpus, delay_tests, after_delay, bring_up_tests, watch_tests, other_tests, source_tests, number_tests, reference_tests, thread_tests, other_part_tests, part_tests, range_tests, tickets_test}
+use Rattle.clk_machine.specs.Ranges.{Test, value_at, cpu_fault, is_between, ranges, is_width, is_cpu, at_most, jump_test, after_jump, jumps_test, script_length, script_updates, word_test, script_tests, cpu_tests, reader_tests, words_of_cpus, delay_tests, after_delay, bring_up_tests, watch_tests, other_tests, source_tests, number_tests, reference_tests, thread_tests, other_part_tests, part_tests, range_tests, tickets_test}
 use Rattle.clk_machine.proofs.Counting.{length-repeat, sum_by-repeat, threads_length}
 
 -- ---- tests that pass
@@ -107,7 +107,7 @@ each_word cpus row entry n (w ∷ ws) h =
   where
     one_word : (v : Word) → IsInRange cpus v → word_test cpus row entry n v ≡ None
     one_word Local e = refl
-    one_word (Remote d) e = pass (is_cpu cpus d) (cpu_at row entry n) (cpu_test cpus d e)
+    one_word (Remote d) e = pass (is_cpu cpus d) (cpu_fault row entry n) (cpu_test cpus d e)
     one_word Tick e = refl
     one_word Idle e = refl
     one_word Update e = refl
@@ -170,7 +170,7 @@ each_reader_passes cpus before n (r ∷ rs) h few =
     let words : before + script_length r.script ≤ 524288 = omega (arith, whole, few) in
     told_pass (λ words entry (d : ReaderPlan). first (reader_tests cpus entry words d)) (λ words d. words + script_length d.script) before n r rs
     (all_pass (reader_tests cpus n before r) (
-      pass (is_cpu cpus r.cpu) (cpu_at rows.ReaderCpu n 0) (cpu_test cpus r.cpu here.cpu),
+      pass (is_cpu cpus r.cpu) (cpu_fault rows.ReaderCpu n 0) (cpu_test cpus r.cpu here.cpu),
       (
           script_pass cpus rows.ReaderRepeat rows.ReaderScript n before r.script here.script words
           ),

@@ -1,5 +1,5 @@
--- What follows from the limits alone: how far counters, records and readings of a run go. And that the limits are what the
--- range tests test.
+-- What follows from the limits alone: how far counters, records and readings of a run go. And that the limits are what
+-- the range tests test.
 use Rattle.std.specs.Prelude.{◌≡◌, ℕ, ◌*◌, ◌^◌, ◌<◌, ◌≤◌, ◌↔◌, ℤ, pos, List, [], ◌∷◌, None}
 use Rattle.std.specs.List.{All}
 use Rattle.clk_base.specs.First.{first}
@@ -51,8 +51,8 @@ FirstReadingsAreSmall =
     (m : Plan) (records : List Published) (r : RawReading) → IsWithinLimits m → AreRecords m 0 (pos 0) records → r.rec ≡ 0
     → r.ticket < most_tickets → IsRightReading m 0 (pos 0) records r → IsFrom0To (6 * 2 ^ 52) (above_base m r.ns)
 
--- the numbers of well-formed parts are in range exactly where no range test fails, and they and the tickets are within the
--- limits exactly where no test fails at all
+-- the numbers of well-formed parts are in range exactly where no range test fails, and they and the tickets are within
+-- the limits exactly where no test fails at all
 abbrev pub RangesAreTested : Type 0
 RangesAreTested = (m : Plan) → IsWellFormed m → (first (part_tests m) ≡ None) ↔ AreInRange m
 

@@ -4,7 +4,7 @@ use Rattle.std.specs.Ordering.{int_eq}
 use Rattle.std.specs.List.{All, sum_by, count_by}
 use Rattle.clk_num.specs.Range.{IsNear}
 use Rattle.clk_machine.specs.declared.script.Word.{Word}
-use Rattle.clk_machine.specs.declared.script.Word.TheVariants.{Remote, Tick, Idle, Update, Pause}
+use Rattle.clk_machine.specs.declared.script.Word.TheVariants.{Local, Remote, Tick, Idle, Update, Pause}
 use Rattle.clk_machine.specs.declared.parts.ReferencePart.{ReferencePart}
 use Rattle.clk_machine.specs.declared.parts.BringUpPart.{BringUpPart}
 use Rattle.clk_machine.specs.declared.parts.WatchPart.{WatchPart}
@@ -45,20 +45,29 @@ abbrev pub IsNumberOfCpu : ℕ → ℤ → Type 0
 IsNumberOfCpu cpus z = (z ≡ pos (count_of z)) × (count_of z < cpus)
 
 abbrev pub IsInRange : ℕ → Word → Type 0
+IsInRange cpus Local = Unit {0}
 IsInRange cpus (Remote d) = IsNumberOfCpu cpus d
+IsInRange cpus Tick = Unit {0}
+IsInRange cpus Idle = Unit {0}
+IsInRange cpus Update = Unit {0}
 IsInRange cpus (Pause n) = IsWithin 1 longest_pause n
-IsInRange cpus _ = Unit {0}
 
 -- a reader makes readings and pauses alone
 abbrev pub IsOfReader : Word → Type 0
+IsOfReader Local = Unit {0}
+IsOfReader (Remote d) = Unit {0}
 IsOfReader Tick = ⊥
 IsOfReader Idle = ⊥
 IsOfReader Update = ⊥
-IsOfReader _ = Unit {0}
+IsOfReader (Pause n) = Unit {0}
 
 abbrev pub is_update : Word → Bool
+is_update Local = false
+is_update (Remote d) = false
+is_update Tick = false
+is_update Idle = false
 is_update Update = true
-is_update _ = false
+is_update (Pause n) = false
 
 pub record IsScript (cpus : ℕ) (s : ScriptPlan) : Type 0 where
   pub repeat : IsWithin 0 65536 s.repeat

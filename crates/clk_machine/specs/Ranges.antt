@@ -1,12 +1,12 @@
--- The range tests of a machine's numbers, in the order of the rows of the machine file. Entries and items are numbered as in
--- a `Place`.
+-- The range tests of a machine's numbers, in the order of the rows of the machine file. Entries and items are numbered
+-- as in a `Place`.
 use Rattle.std.specs.Prelude.{ℕ, ◌+◌, ◌-◌, ◌*◌, ◌^◌, nat_le, nat_lt, ◌==◌, Bool, false, not, ◌&&◌, ◌||◌, ℤ, pos, negsuc, nat_abs, List, [], ◌∷◌, ◌++◌, length, Option, Some, None, if◌then◌else◌}
 use Rattle.std.specs.List.{sum_by, count_by}
 use Rattle.clk_base.specs.First.{unless, first, each, each_told}
 use Rattle.clk_machine.specs.declared.rows.Row.{Row}
 use Rattle.clk_machine.specs.declared.rows.Row.TheVariants as rows
 use Rattle.clk_machine.specs.declared.script.Word.{Word}
-use Rattle.clk_machine.specs.declared.script.Word.TheVariants.{Remote, Pause}
+use Rattle.clk_machine.specs.declared.script.Word.TheVariants.{Local, Remote, Tick, Idle, Update, Pause}
 use Rattle.clk_machine.specs.declared.parts.ReferencePart.{ReferencePart}
 use Rattle.clk_machine.specs.declared.parts.BringUpPart.{BringUpPart}
 use Rattle.clk_machine.specs.declared.parts.WatchPart.{WatchPart}
@@ -24,8 +24,8 @@ Test = Option MachineError
 abbrev pub value_at : Row → ℕ → ℕ → MachineError
 value_at row entry item = Value (record { row = number_of row; entry = entry; item = item })
 
-abbrev pub cpu_at : Row → ℕ → ℕ → MachineError
-cpu_at row entry item = Cpu (record { row = number_of row; entry = entry; item = item })
+abbrev pub cpu_fault : Row → ℕ → ℕ → MachineError
+cpu_fault row entry item = Cpu (record { row = number_of row; entry = entry; item = item })
 
 abbrev pub is_between : ℕ → ℕ → ℤ → Bool
 is_between low high (pos n) = nat_le low n && nat_le n high
@@ -66,9 +66,12 @@ abbrev pub script_updates : ScriptPlan → ℕ
 script_updates s = count_by is_update s.words * count_of s.repeat
 
 abbrev pub word_test : ℕ → Row → ℕ → ℕ → Word → Test
-word_test cpus row entry i (Remote d) = unless (is_cpu cpus d) (cpu_at row entry i)
+word_test cpus row entry i Local = None
+word_test cpus row entry i (Remote d) = unless (is_cpu cpus d) (cpu_fault row entry i)
+word_test cpus row entry i Tick = None
+word_test cpus row entry i Idle = None
+word_test cpus row entry i Update = None
 word_test cpus row entry i (Pause n) = unless (is_between 1 longest_pause n) (value_at row entry i)
-word_test cpus row entry i _ = None
 
 -- a script, by the rows of its repeat and of its words, after scripts of so many words
 abbrev pub script_tests : ℕ → Row → Row → ℕ → ℕ → ScriptPlan → List Test
@@ -90,7 +93,7 @@ cpu_tests cpus entry before c =
 
 abbrev pub reader_tests : ℕ → ℕ → ℕ → ReaderPlan → List Test
 reader_tests cpus entry before r =
-    unless (is_cpu cpus r.cpu) (cpu_at rows.ReaderCpu entry 0) ∷ script_tests cpus rows.ReaderRepeat rows.ReaderScript entry before r.script
+    unless (is_cpu cpus r.cpu) (cpu_fault rows.ReaderCpu entry 0) ∷ script_tests cpus rows.ReaderRepeat rows.ReaderScript entry before r.script
 
 -- each CPU and each reader is told how many script words came before it
 abbrev pub each_cpu : ℕ → List CpuPlan → Test

@@ -8,8 +8,8 @@ use Rattle.clk_machine.specs.Plan.{count_of}
 abbrev pub on_word : ℕ → ℕ → ℕ
 on_word cpu w = if cpu == w then 1 else 0
 
--- a reading steps once on its own CPU's word, and a tick makes one; a remote reading then couples that word with the other,
--- by one step on either; an idle time ends with a reading and a tick
+-- a reading steps once on its own CPU's word, and a tick makes one; a remote reading then couples that word with the
+-- other, by one step on either; an idle time ends with a reading and a tick
 abbrev pub steps_for : ℕ → ℕ → Word → ℕ
 steps_for w cpu Local = on_word cpu w
 steps_for w cpu (Remote d) = on_word cpu w + (on_word cpu w + on_word (count_of d) w)

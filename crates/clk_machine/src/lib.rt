@@ -4,12 +4,13 @@
 //! [`Machine::new`] answers the first failing range test, in the order of the file's rows. Contracts see a machine as a
 //! plan, `specs/Plan.antt`: what was written, over unbounded numbers.
 //!
-//! - [`Machine::time`] is a function of the ticket alone, and a counter one of the time: `specs/Time.antt`. Each is found
-//!   by halving over sums that the machine keeps, so a file with many delays and jumps costs about what one without costs.
+//! - [`Machine::time`] is a function of the ticket alone, and a counter one of the time: `specs/Time.antt`. Each is
+//!   found by halving over sums that the machine keeps, so a file with many delays and jumps costs about what one
+//!   without costs.
 //! - [`Machine::reference`] converted is monotonic time, [`Machine::gtod`].
 //! - [`RawReading`] and [`Published`] are what a latch answers, and `specs/Records.antt` says which are right.
-//! - [`readings_are_small`] carries what follows from the limits alone, and [`limits_are_tested`] that the range tests test
-//!   them.
+//! - [`readings_are_small`] carries what follows from the limits alone, and [`limits_are_tested`] that the range tests
+//!   test them.
 //! - [`Row`] names the rows of the file, once for the reader, the range tests and the text of a [`Place`].
 //!
 //! A machine says nothing of what its threads do or when: it describes counters and names the words of scripts.

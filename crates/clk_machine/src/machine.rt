@@ -61,8 +61,9 @@ impl Model for Machine {
 impl Machine {
     /// The machine of these numbers, where all of them are in range. It takes no memory.
     ///
-    /// The error is the first failing range test, in the order of the rows of the machine file: `Tickets` comes last, and so
-    /// exactly where all numbers are in range and the run needs more tickets than its version allows, 2^24 or 2^26.
+    /// The error is the first failing range test, in the order of the rows of the machine file: `Tickets` comes last,
+    /// and so exactly where all numbers are in range and the run needs more tickets than its version allows, 2^24 or
+    /// 2^26.
     pub fn new(parts: Parts) -> Result<Machine, MachineError>
         requires { IsWellFormed (plan_of parts) }
         ensures machine { IfOk result (λ m. m ≡ plan_of parts) }
@@ -182,8 +183,8 @@ impl Machine {
         self.script(thread).word(m)
     }
 
-    /// How many tickets the words of the script of a thread draw, after repeats, at most 2^26. Threads are numbered as in
-    /// [`threads`](Machine::threads): first the CPUs, then the readers.
+    /// How many tickets the words of the script of a thread draw, after repeats, at most 2^26. Threads are numbered as
+    /// in [`threads`](Machine::threads): first the CPUs, then the readers.
     pub fn tickets(&self, thread: u32) -> u64
         requires { thread < length (threads_of self.now) }
         ensures count { result ≡ sum_by tickets_of (thread_at self.now thread).1 }
@@ -193,9 +194,9 @@ impl Machine {
         self.script(thread).tickets()
     }
 
-    /// The most steps that the script of a thread makes on the clock word of CPU `w`, after repeats, at most 3 * 65,536.
-    /// Which of two words a remote reading couples is known in the run alone, so its step counts on both. Threads are
-    /// numbered as in [`threads`](Machine::threads).
+    /// The most steps that the script of a thread makes on the clock word of CPU `w`, after repeats, at most 3 *
+    /// 65,536. Which of two words a remote reading couples is known in the run alone, so its step counts on both.
+    /// Threads are numbered as in [`threads`](Machine::threads).
     pub fn steps(&self, thread: u32, w: u32) -> u32
         requires { thread < length (threads_of self.now) }
         ensures count { result ≡ sum_by (steps_for w (thread_at self.now thread).0) (thread_at self.now thread).1 }
@@ -241,8 +242,8 @@ impl Machine {
         self.parts.bringup.as_ref()
     }
 
-    /// The timeout of a CPU's tests in us, 0 to 1,000,000: the first CPU of a socket has its own. After `loop_timeout` of
-    /// Linux 6.1's `arch/x86/kernel/tsc_sync.c`.
+    /// The timeout of a CPU's tests in us, 0 to 1,000,000: the first CPU of a socket has its own. After `loop_timeout`
+    /// of Linux 6.1's `arch/x86/kernel/tsc_sync.c`.
     pub fn timeout(&self, cpu: u32) -> u64
         requires bring_up { IsSome self.now.bringup }
         requires cpu { (1 ≤ cpu) × (cpu < cpu_count self.now) }

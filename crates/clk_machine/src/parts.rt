@@ -44,8 +44,8 @@ pub struct Parts {
     pub source: List<SourcePart>,
 }
 
-/// The reference counter: its true rate, 1,000 to 4,000,000 kHz, its width of 32, 56 or 64 bits, its rating, 1 to 1,000,
-/// and its margin, 0 to 2^30 ns.
+/// The reference counter: its true rate, 1,000 to 4,000,000 kHz, its width of 32, 56 or 64 bits, its rating, 1 to
+/// 1,000, and its margin, 0 to 2^30 ns.
 #[derive(Clone, Copy, PartialEq, Eq, Debug)]
 pub struct ReferencePart {
     pub khz: i64,
@@ -72,8 +72,8 @@ pub struct ReaderPart {
     pub script: Script,
 }
 
-/// A bring-up: whether a CPU has the register that adjusts its counter, the longest time of a test's loop, 0 to 1,000,000
-/// us, that of the first CPU of a socket, in the same range, and its most turns, 0 to 4,096.
+/// A bring-up: whether a CPU has the register that adjusts its counter, the longest time of a test's loop, 0 to
+/// 1,000,000 us, that of the first CPU of a socket, in the same range, and its most turns, 0 to 4,096.
 #[derive(Clone, Copy, PartialEq, Eq, Debug)]
 pub struct BringUpPart {
     pub adjust: bool,
@@ -82,8 +82,8 @@ pub struct BringUpPart {
     pub turns: i64,
 }
 
-/// A watchdog: how many checks it makes, 0 to 4,096, the tickets of a pause before each, 1 to 65,536, the longest time of
-/// a reading, 0 to 2^30 ns, and how often a reading is tried again, 0 to 10.
+/// A watchdog: how many checks it makes, 0 to 4,096, the tickets of a pause before each, 1 to 65,536, the longest time
+/// of a reading, 0 to 2^30 ns, and how often a reading is tried again, 0 to 10.
 #[derive(Clone, Copy, PartialEq, Eq, Debug)]
 pub struct WatchPart {
     pub checks: i64,
@@ -92,9 +92,9 @@ pub struct WatchPart {
     pub retries: i64,
 }
 
-/// A clock source: whether it is the CPUs' own counter (TSC), its rating, 1 to 1,000, its margin, 0 to 2^30 ns, its true
-/// rate and that by which it is converted, 1,000 to 4,000,000 kHz, its width of 32, 56 or 64 bits, and its jumps. The last
-/// four of a TSC source are the machine's nominal rate twice, its width, and none.
+/// A clock source: whether it is the CPUs' own counter (TSC), its rating, 1 to 1,000, its margin, 0 to 2^30 ns, its
+/// true rate and that by which it is converted, 1,000 to 4,000,000 kHz, its width of 32, 56 or 64 bits, and its jumps.
+/// The last four of a TSC source are the machine's nominal rate twice, its width, and none.
 #[derive(Drop)]
 pub struct SourcePart {
     pub tsc: bool,
@@ -106,8 +106,8 @@ pub struct SourcePart {
     pub jumps: List<Jump>,
 }
 
-/// A ticket that takes longer, and by how many ns. [`crate::Machine::new`] keeps the sum so far beside it, so that a time
-/// is found by halving.
+/// A ticket that takes longer, and by how many ns. [`crate::Machine::new`] keeps the sum so far beside it, so that a
+/// time is found by halving.
 #[derive(Clone, Copy, PartialEq, Eq, Debug)]
 pub struct Delay {
     pub ticket: i64,
@@ -144,8 +144,8 @@ fn sum_delays(delays: &mut [Delay])
     }
 }
 
-/// A jump of a counter: the time in ns, and how many cycles it goes on or back. [`crate::Machine::new`] keeps the sum so
-/// far beside it, so that a count is found by halving.
+/// A jump of a counter: the time in ns, and how many cycles it goes on or back. [`crate::Machine::new`] keeps the sum
+/// so far beside it, so that a count is found by halving.
 #[derive(Clone, Copy, PartialEq, Eq, Debug)]
 pub struct Jump {
     pub at: i64,

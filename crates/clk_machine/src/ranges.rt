@@ -1,7 +1,7 @@
 //! The range tests of single numbers, by their rows of the machine file.
 ghost use Rattle.std.specs.Prelude.{◌≡◌, ◌^◌, ◌≤◌, pos};
 ghost use Rattle.clk_machine.specs.Plan.{count_of};
-ghost use Rattle.clk_machine.specs.Ranges.{ranges, is_between, is_width, is_cpu, at_most, value_at as value_of, cpu_at as cpu_of};
+ghost use Rattle.clk_machine.specs.Ranges.{ranges, is_between, is_width, is_cpu, at_most, value_at as value_of, cpu_fault as cpu_fault_of};
 ghost use Rattle.clk_machine.specs.Limits.{most_cpus as cpus_of, ticket_limit as tickets_of};
 ghost use Rattle.clk_base.specs.First.{unless};
 ghost use Rattle.clk_machine.specs.Tested.{NumberIn};
@@ -41,8 +41,8 @@ pub(crate) fn value_at(row: Row, entry: u32, item: u32) -> MachineError
 }
 
 /// The refusal of a CPU's number.
-pub(crate) fn cpu_at(row: Row, entry: u32, item: u32) -> MachineError
-    ensures { result ≡ cpu_of row entry item }
+pub(crate) fn cpu_fault(row: Row, entry: u32, item: u32) -> MachineError
+    ensures { result ≡ cpu_fault_of row entry item }
 {
     MachineError::Cpu(Place {
         row: row.number(),

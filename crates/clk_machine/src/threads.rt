@@ -10,7 +10,7 @@ ghost use Rattle.clk_machine.specs.Tested.{Tested};
 use crate::error::MachineError;
 use crate::jumps::test_jumps;
 use crate::parts::{CpuPart, Parts, ReaderPart};
-use crate::ranges::{at_most, cpu_at, is_between, is_cpu, ranges, unless_held, value_at};
+use crate::ranges::{at_most, cpu_fault, is_between, is_cpu, ranges, unless_held, value_at};
 use crate::rows::Row;
 use crate::script::{Script, Word};
 
@@ -39,7 +39,7 @@ fn test_word(cpus: u64, row: Row, entry: u32, item: u32, word: &Word) -> Option<
     ensures { result ≡ word_test cpus row entry item word.now }
 {
     match word {
-        Word::Remote(cpu) => unless_held(is_cpu(cpus, *cpu), cpu_at(row, entry, item)),
+        Word::Remote(cpu) => unless_held(is_cpu(cpus, *cpu), cpu_fault(row, entry, item)),
         Word::Pause(count) => {
             unless_held(is_between(1, MAX_PAUSE, *count), value_at(row, entry, item))
         }
@@ -123,7 +123,7 @@ fn test_reader(cpus: u64, entry: u32, before: u64, reader: &ReaderPart) -> Resul
         (before + script_length (script_plan reader.now.script)) (λ words. words ≤ 524288) result }
 {
     if !is_cpu(cpus, reader.cpu) {
-        return Err(cpu_at(Row::ReaderCpu, entry, 0));
+        return Err(cpu_fault(Row::ReaderCpu, entry, 0));
     }
     test_script(
         cpus,

@@ -1,8 +1,8 @@
 //! A large machine from a number.
 //!
 //! A machine file of some size is long to write by hand. [`machine_of`] makes the machine of a number below 65,536
-//! instead: 2 to 16 CPUs and up to 3 readers on the first of them, in a per-CPU start, without a bring-up and a
-//! watchdog. A CPU has 64 script words of every kind, 64 times over, and a reader 8 readings, 256 times over.
+//! instead: 2 to 16 CPUs and up to 3 readers, each on one of the first CPUs, in a per-CPU start, without a bring-up and
+//! a watchdog. A CPU has 64 script words of every kind, 64 times over, and a reader 8 readings, 256 times over.
 //!
 //! - `specs/Made.antt` is the machine, as a plan: the number alone tells it.
 //! - `specs/Numbers.antt` has its sizes in closed form: script words, tickets, and steps on the clock words.

@@ -1,5 +1,5 @@
--- What is left of a number in 64 bits: it differs by whole turns of 2^64, and it is from -2^63 to below 2^63. From these
--- three facts `omega (arith, ints, clamps, wrapped)` gets what a law on wrapped numbers needs.
+-- What is left of a number in 64 bits: it differs by whole turns of 2^64, and it is from -2^63 to below 2^63. From
+-- these three facts `omega (arith, ints, clamps, wrapped)` gets what a law on wrapped numbers needs.
 use Rattle.std.proofs.Common.{◌≡◌, ◌+◌, ◌*◌, ◌^◌, ◌<◌, ◌≤◌, ℤ, pos, negsuc, ◌+ℤ◌, arith}
 use Rattle.std.proofs.lemmas.Int.{ints}
 use Rattle.std.specs.Int.{int_rem_euclid, int_div_euclid}

@@ -1,9 +1,9 @@
--- The step of a clock word: what a local reading puts in the place of the word that it found.
+-- Where a local reading wants its clock word to be, and how far the raw clock went since a stamp.
 use Rattle.std.specs.Prelude.{ℤ, pos, ◌+ℤ◌}
 use Rattle.std.specs.Int.{int_min, int_max}
 use Rattle.clk_num.specs.Wrapping.{wrap, above}
 
--- the time since the last tick began, at most one tick long
+-- the clock at a stamp, and the time since that stamp, at most one tick of it
 abbrev pub local_target : ℤ → ℤ → ℤ → ℤ
 local_target base delta tick = wrap (base +ℤ int_min delta tick)
 

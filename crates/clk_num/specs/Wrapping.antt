@@ -1,4 +1,5 @@
--- Clock values as Linux keeps them: 64-bit words in two's complement, of which the sign of a difference tells which is later.
+-- Clock values as Linux keeps them: 64-bit words in two's complement, of which the sign of a difference tells which is
+-- later.
 use Rattle.std.specs.Prelude.{◌≡◌, ℕ, ◌^◌, ℤ, pos, ◌+ℤ◌, ◌-ℤ◌, ◌≤ℤ◌, ◌<ℤ◌, int_lt, if◌then◌else◌}
 use Rattle.std.specs.Int.{int_rem_euclid, cast_unsigned, cast_signed, w64}
 use Rattle.std.specs.Int.RustNames.{FitsSigned}

@@ -14,8 +14,8 @@ pub fn cyc_to_ns(cyc: u64, rate: Rate) -> u64
     (product >> rate.shift) as u64
 }
 
-/// The wrap time, in ns: half of the longest time for which neither the counter turns over nor its product with the mult
-/// leaves 64 bits. After `clocks_calc_max_nsecs` of Linux 6.1.
+/// The wrap time, in ns: half of the longest time for which neither the counter turns over nor its product with the
+/// mult leaves 64 bits. After `clocks_calc_max_nsecs` of Linux 6.1.
 pub fn max_nsecs(rate: Rate, mask: u64) -> u64
     requires mult { 0 < rate.mult }
     requires shift { rate.shift ≤ 32 }

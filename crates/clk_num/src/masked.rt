@@ -12,8 +12,8 @@ pub fn mask_of(bits: u32) -> u64
 }
 
 /// How far a counter of `bits` bits, 1 to 64, went from `last` to `now`, over the end of its range. A difference in the
-/// upper half of the mask counts as 0: there the counter went back, as far as one can tell. After `clocksource_delta` of
-/// Linux 6.1 with its test of the last cycle.
+/// upper half of the mask counts as 0: there the counter went back, as far as one can tell. After `clocksource_delta`
+/// of Linux 6.1 with its test of the last cycle.
 pub fn masked_delta(now: u64, last: u64, bits: u32) -> u64
     requires low { 1 ≤ bits }
     requires high { bits ≤ 64 }

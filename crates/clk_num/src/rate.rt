@@ -15,9 +15,9 @@ pub struct Rate {
     pub shift: u32,
 }
 
-/// The rate that turns cycles of `from` Hz into cycles of `to` Hz: that of the greatest shift from 32 down to 1 whose mult
-/// has no more bits than 64 leave it beside the cycles of `maxsec` seconds, nor more than 32. Where no shift does, the
-/// shift is 0 and the mult is the low 32 bits of that at shift 1. After `clocks_calc_mult_shift` of Linux 6.1.
+/// The rate that turns cycles of `from` Hz into cycles of `to` Hz: that of the greatest shift from 32 down to 1 whose
+/// mult has no more bits than 64 leave it beside the cycles of `maxsec` seconds, nor more than 32. Where no shift does,
+/// the shift is 0 and the mult is the low 32 bits of that at shift 1. After `clocks_calc_mult_shift` of Linux 6.1.
 pub fn mult_shift(from: u32, to: u32, maxsec: u32) -> Rate
     requires { 0 < from }
     ensures rate { result ≡ mult_shift from to maxsec }
@@ -40,9 +40,9 @@ pub fn mult_shift(from: u32, to: u32, maxsec: u32) -> Rate
     }
 }
 
-/// The rate of a clock source of `hz` Hz, whose counter has `bits` bits, 1 to 64, into ns. The seconds whose cycles are to
-/// fit are those until the counter turns over, at least one, and at most ten minutes' where it is wider than 32 bits.
-/// After `__clocksource_update_freq_scale` of Linux 6.1.
+/// The rate of a clock source of `hz` Hz, whose counter has `bits` bits, 1 to 64, into ns. The seconds whose cycles are
+/// to fit are those until the counter turns over, at least one, and at most ten minutes' where it is wider than 32
+/// bits. After `__clocksource_update_freq_scale` of Linux 6.1.
 pub fn source_rate(hz: u32, bits: u32) -> Rate
     requires hz { 0 < hz }
     requires low { 1 ≤ bits }

@@ -10,8 +10,8 @@ pub fn above(value: i64, other: i64) -> i64
     value.wrapping_sub(other)
 }
 
-/// What a register that only rises holds once `value` is put into it, in ns: `value` where that is above `old`, and else
-/// `old`. Above is meant by the sign of the difference.
+/// What a register that only rises holds once `value` is put into it, in ns: `value` where that is above `old`, and
+/// else `old`. Above is meant by the sign of the difference.
 pub fn raise(old: i64, value: i64) -> i64
     ensures { result ≡ raise old value }
 {

@@ -1,4 +1,5 @@
--- Lemmas on a coupling: the value that it names was held, and nothing that it loads, finds or leaves is below what was seen.
+-- Lemmas on a coupling: the value that it names was held, and nothing that it loads, finds or leaves is below what was
+-- seen.
 use Rattle.std.proofs.Common.{◌≡◌, ℕ, ℤ, Bool, true, false, cond, List, [], ◌∷◌, ◌++◌, refl, sym, ap, ◌∙◌, subst, append_assoc, append-nil}
 use Rattle.clk_num.specs.Wrapping.{IsNotBelow, raise}
 use Rattle.clk_num.proofs.Heights.{raise_rises}

@@ -38,8 +38,8 @@ pub record ShowsCoupling (z : Site) (asked : ℕ) (v : Known) (own other : ℤ) 
   pub pairs_is : w.view.pairs ≡ v.view.pairs
   -- the value that the step names is one that the other word held
   pub named : NamesHeld v.view.start loaded.seen step.why
-  -- what was loaded is not below what the seat had seen, what the step found is not below what was loaded, and the reading is
-  -- below neither that nor what the seat had seen
+  -- what was loaded is not below what the seat had seen, what the step found is not below what was loaded, and the
+  -- reading is below neither that nor what the seat had seen
   pub own_not_below : IsNotBelow own (shown_on z.cpu v.view)
   pub other_not_below : IsNotBelow other (shown_on asked v.view)
   pub old_not_below : IsNotBelow step.old (lower_value own other)

@@ -10,8 +10,8 @@ pub enum RemoteEvent {
         raw: RawReading,
         value: i64,
     },
-    /// A local read, by `raw` and the step `local` on the own CPU's word. Then `own` and `other`, in ns, were loaded of the
-    /// own word and of the word asked for, and `step` raised the lower of the two words to the other's value.
+    /// A local read, by `raw` and the step `local` on the own CPU's word. Then `own` and `other`, in ns, were loaded of
+    /// the own word and of the word asked for, and `step` raised the lower of the two words to the other's value.
     Coupled {
         raw: RawReading,
         local: Step,

@@ -12,9 +12,10 @@ use clk_local::{Ctx, Reading, local};
 use clk_num::above;
 use clk_words::{Step, Why};
 
-/// A remote read of the clock of `cpu`, another CPU of the words than the seat's: a local read with its look at the mode,
-/// and, unless that found the clock stable, a coupling of the own clock word with that of `cpu`. It draws one ticket, and
-/// takes no memory and does not wait. After `sched_clock_remote` of Linux 6.1, which loads the own word before `cpu`'s too.
+/// A remote read of the clock of `cpu`, another CPU of the words than the seat's: a local read with its look at the
+/// mode, and, unless that found the clock stable, a coupling of the own clock word with that of `cpu`. It draws one
+/// ticket, takes no memory, and waits only where the latch does. After `sched_clock_remote` of Linux 6.1, which loads
+/// the own word before `cpu`'s too.
 pub fn remote<E: Epochs>(ctx: &mut Ctx<'_, E>, cpu: u32) -> RemoteEvent
     requires usable { IsUsable E.fits E.epoch ctx.old }
     requires cpu { cpu < ctx.old.words.now.start.cpus }

@@ -31,7 +31,7 @@ use Rattle.clk_worker.specs.Calling.{site_at, has}
 use Rattle.clk_worker.proofs.RunFirst.{HasGiven, given_none, given_more}
 use Rattle.clk_demote.specs.declared.events.StableStamp.{StableStamp}
 use Rattle.clk_demote.specs.declared.events.Demotion.{Demotion}
-use Rattle.clk_threads.specs.Booting.{sched_offset_of, AreStamps, IsDemotedBy}
+use Rattle.clk_threads.specs.Booting.{sched_offset_of, AreStamps, IsDemotedAtBootBy}
 use Rattle.clk_threads.specs.Preparing.{start_of, kind_on, gave, thread_seat, thread_seats, epoch_on, IsOfLatch, IsLatchSeat, time_seat, no_events, IsPrepared}
 use Rattle.clk_threads.specs.Workers.{post_of, fresh_hand, IsOfSeats}
 use Rattle.clk_threads.specs.Ending.{seats_of, shared_of}
@@ -123,7 +123,7 @@ fresh_worker p ip thread h low w =
 -- ---- it may begin
 
 -- the words open near the machine's base
-pub opens_near : (m : Plan) (stamps : List StableStamp) (demotion : Option Demotion) → AreStamps m stamps → IsDemotedBy m stamps demotion
+pub opens_near : (m : Plan) (stamps : List StableStamp) (demotion : Option Demotion) → AreStamps m stamps → IsDemotedAtBootBy m stamps demotion
     → IsFrom0To (2 ^ 57) (above_base m (opens_at (start_of m stamps demotion)))
 opens_near m stamps None are by = are.near
 opens_near m stamps (Some d) are by = (by d refl).near

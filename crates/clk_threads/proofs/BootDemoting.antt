@@ -1,5 +1,5 @@
 -- A demotion at boot: by the boot's last stamp and one of its own, with the tickets after the bring-up's.
-use Rattle.std.proofs.Common.{◌≡◌, ℕ, suc, ◌+◌, ◌-◌, ◌*◌, ◌^◌, ◌<◌, ◌≤◌, Bool, true, false, cond, ℤ, pos, ◌≤ℤ◌, List, [], ◌∷◌, ◌++◌, length, get_or, Option, Some, None, refl, sym, ap, ◌∙◌, subst, arith, append_assoc, append-nil}
+use Rattle.std.proofs.Common.{◌≡◌, ℕ, suc, ◌+◌, ◌-◌, ◌*◌, ◌^◌, ◌<◌, ◌≤◌, true, ℤ, pos, ◌≤ℤ◌, List, [], ◌∷◌, ◌++◌, length, get_or, Option, Some, None, refl, ap, ◌∙◌, subst, arith, append_assoc}
 use Rattle.std.specs.List.{All}
 use Rattle.std.proofs.lemmas.Int.{ints}
 use Rattle.std.proofs.lemmas.List.Elements.{All-head, All-tail}
@@ -7,9 +7,8 @@ use Rattle.clk_base.specs.declared.block.Block.{Block}
 use Rattle.clk_base.specs.Blocks.{end_of, AllEndBy}
 use Rattle.clk_num.specs.Range.{IsFrom0To}
 use Rattle.clk_ticket.specs.Sizes.{size_of}
-use Rattle.clk_ticket.specs.Time.{Tickets, Time, Draws}
+use Rattle.clk_ticket.specs.Time.{Tickets, Time}
 use Rattle.clk_words.specs.Bounds.{IsGtod, IsOpening}
-use Rattle.clk_machine.specs.declared.reading.Published.{Published}
 use Rattle.clk_machine.specs.Plan.{Plan}
 use Rattle.clk_machine.specs.Limits.{most_tickets, IsWithinLimits}
 use Rattle.clk_machine.specs.Records.{record_zero, above_base, base_of, AreRecords}
@@ -22,11 +21,11 @@ use Rattle.clk_adjust.specs.declared.up.BroughtUp.{BroughtUp}
 use Rattle.clk_trace.specs.Checks.{one}
 use Rattle.clk_trace.specs.TicketOrder.{boot_blocks, up_blocks}
 use Rattle.clk_trace.specs.Demoted.{boot_stamp}
-use Rattle.clk_trace.specs.RightReadings.{IsRightStamp, taken_stamp}
+use Rattle.clk_trace.specs.RightReadings.{IsRightStamp}
 use Rattle.clk_demote.specs.declared.events.StableStamp.{StableStamp}
 use Rattle.clk_demote.specs.declared.events.Demotion.{Demotion}
 use Rattle.clk_demote.specs.Demotions.{IsDemotion}
-use Rattle.clk_threads.specs.Booting.{HasStamped, gtod_offset_of, sched_offset_of, opening_of, AreStamps, IsBootDemotion, IsDemotedBy, HasDrawnFirst, HasDrawnBefore, IsBootedFor, IsDemotedFor}
+use Rattle.clk_threads.specs.Booting.{HasStamped, gtod_offset_of, sched_offset_of, opening_of, AreStamps, IsBootDemotion, IsDemotedAtBootBy, HasDrawnFirst, HasDrawnBefore, IsBootedFor, IsDemotedFor}
 use Rattle.clk_threads.specs.declared.booted.Booted.{Booted}
 use Rattle.clk_threads.proofs.Lasts.{some_stamps}
 use Rattle.clk_threads.proofs.Stamping.{gtod_rises, opens_well, HasDrawn, stamp_draws}
@@ -166,7 +165,7 @@ is_demoted m up b after epoch s d stable failed h stamped taken =
 
 -- ---- the opening
 
-pub opens : (m : Plan) (stamps : List StableStamp) (demotion : Option Demotion) → AreStamps m stamps → IsDemotedBy m stamps demotion
+pub opens : (m : Plan) (stamps : List StableStamp) (demotion : Option Demotion) → AreStamps m stamps → IsDemotedAtBootBy m stamps demotion
     → IsOpening (opening_of m stamps demotion)
 opens m stamps None are by = are.opening
 opens m stamps (Some d) are by = (by d refl).opening

@@ -1,5 +1,5 @@
--- A bring-up after the boot: its tickets follow the boot's, and leave those of the scripts; and no counter is adjusted by more
--- than it may be read by.
+-- A bring-up after the boot: its tickets follow the boot's, and leave those of the scripts; and no counter is adjusted
+-- by more than it may be read by.
 use Rattle.std.proofs.Common.{◌≡◌, ℕ, zero, suc, ◌+◌, ◌-◌, ◌*◌, ◌^◌, ◌<◌, ◌≤◌, Bool, true, false, cond, ◌&&◌, nat_eq, ℤ, pos, ◌+ℤ◌, neg_ℤ, List, [], ◌∷◌, ◌++◌, map, flat_map, length, get_or, Option, Some, None, refl, sym, ap, ◌∙◌, subst, inl, inr, arith, eq-eqb, append_assoc, append-nil}
 use Rattle.std.specs.List.{All, list_any}
 use Rattle.std.proofs.lemmas.Bool.{cases_lt}
@@ -26,7 +26,7 @@ use Rattle.clk_warp.specs.Verdicts.{adjustment, verdict_of}
 use Rattle.clk_warp.specs.declared.outcome.Verdict.TheVariants as verdict
 use Rattle.clk_adjust.specs.declared.up.CpuUp.{CpuUp}
 use Rattle.clk_adjust.specs.declared.up.BroughtUp.{BroughtUp}
-use Rattle.clk_adjust.specs.BroughtUp.{IsRunOf, adjusted, adjusted_by, AreRunsOf, most_runs, AreMadeAgain, IsTested, test_of, IsUp, is_failure, failed_after, IsBroughtUp}
+use Rattle.clk_adjust.specs.BroughtUp.{IsRunOfCpu, adjusted, adjusted_by, AreRunsOf, most_runs, AreMadeAgain, IsTested, test_of, IsUp, is_failure, failed_after, IsBroughtUp}
 use Rattle.clk_adjust.specs.Tickets.{readings_in, all_readings, cpu_tickets, up_tickets}
 use Rattle.clk_adjust.proofs.Counters.{readings_by}
 use Rattle.clk_adjust.proofs.Sizes.{IsSmall, run_small}
@@ -189,7 +189,7 @@ run_far n run small = by_seen (nat_eq run.cur_target 0) where
 
 -- a run's counters go by its adjustment and 19 * 2^41 cycles at most, and what it calls for no further
 far_more : (m : Plan) (cpu n : ℕ) (adjust : ℤ) (run : WarpRun) → IsWithinLimits m → cpu < cpu_count m → All Within run.readings.items → IsFar n adjust
-    → IsRunOf m cpu adjust run → IsFar (n + (n + 19 * 2 ^ 41)) (adjusted adjust run)
+    → IsRunOfCpu m cpu adjust run → IsFar (n + (n + 19 * 2 ^ 41)) (adjusted adjust run)
 far_more m cpu n adjust run limits there within far is =
     let small = run_small (limits_in m cpu) (n + 19 * 2 ^ 41) run is.run_is (readings_by m cpu adjust n run.readings.items limits there far.high within is.counters) in
     far_sum n (n + 19 * 2 ^ 41) adjust (adjustment run) far (run_far (n + 19 * 2 ^ 41) run small)
@@ -240,7 +240,7 @@ tested_near m part up limits there within h =
     let most = some.0 in
     let three = some.1 in
     let few = few_again (most_runs part) h.before most h.again in
-    let runs = along_split (IsRunOf m up.cpu) adjusted (pos 0) h.before last (subst (AreRunsOf m up.cpu) h.runs_are h.runs) in
+    let runs = along_split (IsRunOfCpu m up.cpu) adjusted (pos 0) h.before last (subst (AreRunsOf m up.cpu) h.runs_are h.runs) in
     let all = subst (λ (xs : List WarpRun). All Within (readings_in xs)) h.runs_are within in
     let both = all_both Within (readings_in h.before) (readings_in last) (subst (All Within) (flat_map-append (λ (r : WarpRun). r.readings.items) h.before last) all) in
     let far = far_runs m up.cpu h.before limits there (omega (arith, few, three)) both.0 runs.0 in

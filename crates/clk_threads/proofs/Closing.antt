@@ -38,7 +38,7 @@ use Rattle.clk_trace.specs.Checks.{listed, demotion_blocks}
 use Rattle.clk_trace.specs.Filling.{FillsHistories}
 use Rattle.clk_trace.specs.Standing.{is_stable}
 use Rattle.clk_trace.specs.TicketOrder.{boot_blocks, up_blocks}
-use Rattle.clk_trace.specs.WatchText.{MayWriteWatch}
+use Rattle.clk_trace.specs.WritableWatch.{MayWriteWatch}
 use Rattle.clk_trace.specs.declared.event.Event.{Event}
 use Rattle.clk_trace.specs.declared.trace.HistoryStep.{HistoryStep}
 use Rattle.clk_trace.specs.declared.trace.Trace.{Trace}

@@ -1,5 +1,5 @@
--- What a thread knew of its CPU's stamps after stamp 0 and of its records begins what the CPU's own thread knew: that one owns them, so once all
--- seats are joined there is no more of them than it knew.
+-- What a thread knew of its CPU's stamps after stamp 0 and of its records begins what the CPU's own thread knew: that
+-- one owns them, so once all seats are joined there is no more of them than it knew.
 use Rattle.std.proofs.Common.{◌≡◌, ℕ, ◌+◌, ◌/◌, ◌<◌, ◌≤◌, nat_eq, Bool, true, false, ◌||◌, List, [], ◌∷◌, map, length, get_or, refl, sym, ap, ◌∙◌, subst, arith, eq-eqb}
 use Rattle.std.specs.List.{All}
 use Rattle.std.proofs.lemmas.Bool.Decides.{nat_tests}
@@ -22,7 +22,7 @@ use Rattle.clk_threads.specs.Preparing.{kind_on}
 use Rattle.clk_threads.specs.Finishing.{Ran, KnowsNoMore, FollowsOwner}
 use Rattle.clk_threads.specs.Ending.{all_together, RecordsBegin}
 use Rattle.clk_threads.proofs.Gathering.{after_taken}
-use Rattle.clk_threads.proofs.LawfulLists.{owner_cpu, thread_cpu}
+use Rattle.clk_threads.proofs.LawfulLists.{thread_cpu}
 use Rattle.clk_threads.proofs.Numbering.{each_of, cpu_low, kind_owner}
 
 -- what a thread has at its end: it owns what its seat was given

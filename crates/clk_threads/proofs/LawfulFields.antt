@@ -28,7 +28,7 @@ use Rattle.clk_trace.specs.LegalHistory.{ReachesTarget, NamesSource, IsLegalHist
 use Rattle.clk_trace.specs.Modes.{modes_of}
 use Rattle.clk_trace.specs.RightReadings.{HasRightReadings, IsRightKind, IsRightStamp, taken_stamp, adjust_of}
 use Rattle.clk_trace.specs.ScriptEvents.{AreEventsOf}
-use Rattle.clk_trace.specs.SeenBefore.{base_of, NeverFalls}
+use Rattle.clk_trace.specs.SeenBefore.{stood_at, NeverFalls}
 use Rattle.clk_trace.specs.SortedHistory.{change_of as change_in}
 use Rattle.clk_trace.specs.Stamps.{Pair, no_pair, last_pair, stamp_zero, stamps_of, NamesPair, pair_after, first_numbers, NamesStamps, numbers_after}
 use Rattle.clk_trace.specs.Standing.{is_stable, begins_stable, standing_offset}
@@ -288,7 +288,7 @@ lawful_by m t closed run stands =
       histories = histories m t closed run stands;
       once = once m t closed run stands;
       seen =
-          zip_threads m t closed run stands (λ cpu es. NeverFalls t.start_word (base_of t) cpu [] es.items)
+          zip_threads m t closed run stands (λ cpu es. NeverFalls t.start_word (stood_at t) cpu [] es.items)
           (thread_never_falls m t closed (base_stood m t closed run));
       modes = modes m t closed run stands;
       bring_up = run.ups;

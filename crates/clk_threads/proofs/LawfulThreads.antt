@@ -23,7 +23,7 @@ use Rattle.clk_local.specs.Context.{Site}
 use Rattle.clk_trace.specs.Modes.{modes_of}
 use Rattle.clk_trace.specs.RightReadings.{IsRightKind, adjust_of}
 use Rattle.clk_trace.specs.ScriptEvents.{AreEventsOf}
-use Rattle.clk_trace.specs.SeenBefore.{base_of, NeverFalls}
+use Rattle.clk_trace.specs.SeenBefore.{stood_at, NeverFalls}
 use Rattle.clk_trace.specs.Standing.{begins_stable, standing_offset}
 use Rattle.clk_trace.specs.Stamps.{Pair, stamp_zero, stamp_of_kind, stamps_of, NamesPair, pair_after, first_numbers, NamesStamps, numbers_after}
 use Rattle.clk_trace.specs.Threads.{own_events}
@@ -278,7 +278,7 @@ pub thread_below : (m : Plan) (t : Trace) (closed : List Step) (thread : ℕ) (r
 thread_below m t closed thread r h = steps_below (cpu_count m) thread (cpu_at m thread) 0 r.events.items h.low h.shows.below
 
 -- and none falls below what the thread has seen, by where the words stood
-pub thread_never_falls : (m : Plan) (t : Trace) (closed : List Step) → StoodAt (start_in m t) closed (base_of t) → (thread : ℕ) (r : Ran) → IsThread m t closed thread r
-    → NeverFalls t.start_word (base_of t) (cpu_at m thread) [] r.events.items
+pub thread_never_falls : (m : Plan) (t : Trace) (closed : List Step) → StoodAt (start_in m t) closed (stood_at t) → (thread : ℕ) (r : Ran) → IsThread m t closed thread r
+    → NeverFalls t.start_word (stood_at t) (cpu_at m thread) [] r.events.items
 thread_never_falls m t closed stood thread r h =
-    subst (λ o. NeverFalls o (base_of t) (cpu_at m thread) [] r.events.items) (sym h.opens) (h.shows.seen closed (base_of t) h.begins h.legal stood)
+    subst (λ o. NeverFalls o (stood_at t) (cpu_at m thread) [] r.events.items) (sym h.opens) (h.shows.seen closed (stood_at t) h.begins h.legal stood)

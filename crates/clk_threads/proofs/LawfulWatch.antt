@@ -23,7 +23,7 @@ use Rattle.clk_trace.specs.Checks.{Visit, Check, listed, pause_of, visits_of, wa
 use Rattle.clk_trace.specs.Demoted.{HasOffset, last_stamp, boot_stamp, IsLiftOf, IsDemotedBy, IsDemotedRight}
 use Rattle.clk_trace.specs.RightReadings.{adjust_of, check_cpu, named_in, NeverFall, IsRightVisit}
 use Rattle.clk_trace.specs.LegalHistory.{ReachesTarget}
-use Rattle.clk_trace.specs.SeenBefore.{base_of}
+use Rattle.clk_trace.specs.SeenBefore.{stood_at}
 use Rattle.clk_trace.specs.Standing.{begins_stable, demotion_by, lifts_by, lifted_from}
 use Rattle.clk_trace.specs.TicketOrder.{first_blocks}
 use Rattle.clk_trace.specs.Updates.{records_of}
@@ -227,7 +227,7 @@ watch_there m t closed run =
     ]
 
 -- so where they left the words, these stood
-pub base_stood : (m : Plan) (t : Trace) (closed : List Step) → IsRunOf m t closed → StoodAt (start_in m t) closed (base_of t)
+pub base_stood : (m : Plan) (t : Trace) (closed : List Step) → IsRunOf m t closed → StoodAt (start_in m t) closed (stood_at t)
 base_stood m t closed run =
     subst (λ o. StoodAt (start_in m t) closed (λ k. lifted_from o (lifts_by t.watch) k)) (sym run.start_word)
     (lifted_stood (start_in m t) closed (lifts_by t.watch) (watch_there m t closed run))

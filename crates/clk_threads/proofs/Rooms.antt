@@ -26,7 +26,7 @@ use Rattle.clk_trace.specs.declared.trace.WatchTrace.{WatchTrace}
 use Rattle.clk_trace.specs.Standing.{lifts_by}
 use Rattle.clk_worker.specs.Making.{Hand}
 use Rattle.clk_worker.proofs.Scripts.{thread_words}
-use Rattle.clk_threads.specs.Preparing.{lifts_room, steps_room, no_steps, histories_below, IsPrepared}
+use Rattle.clk_threads.specs.Preparing.{lifts_room, no_steps, histories_below, IsPrepared}
 use Rattle.clk_threads.specs.Ending.{begun_trace, whole_trace}
 use Rattle.clk_threads.specs.declared.prepared.Prepared.{Prepared}
 use Rattle.clk_threads.proofs.Built.{IsBuilt, built_count, built_at}

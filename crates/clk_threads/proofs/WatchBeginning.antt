@@ -1,5 +1,5 @@
 -- The watchdog of a run may begin with what was prepared for it.
-use Rattle.std.proofs.Common.{◌≡◌, ℕ, zero, suc, ◌+◌, ◌^◌, ◌<◌, ◌≤◌, ℤ, pos, ◌+ℤ◌, ◌-ℤ◌, Bool, true, false, cond, not, ◌&&◌, List, [], ◌∷◌, map, length, get_or, Option, Some, None, refl, sym, ap, ◌∙◌, subst, arith}
+use Rattle.std.proofs.Common.{◌≡◌, ℕ, zero, suc, ◌+◌, ◌^◌, ◌<◌, ℤ, pos, ◌+ℤ◌, ◌-ℤ◌, Bool, true, false, cond, not, ◌&&◌, List, [], ◌∷◌, map, length, get_or, Option, Some, None, refl, sym, ap, ◌∙◌, subst, arith}
 use Rattle.std.specs.Prelude.{IsTrue, is_some}
 use Rattle.std.specs.List.{All, AllZip}
 use Rattle.std.proofs.lemmas.Int.{ints}
@@ -18,11 +18,9 @@ use Rattle.clk_words.specs.declared.step.Step.{Step}
 use Rattle.clk_words.specs.declared.view.View.{View}
 use Rattle.clk_words.specs.Held.{Held}
 use Rattle.clk_words.specs.Histories.{opens_at, has_lift}
-use Rattle.clk_words.specs.Kinds.{is_watch}
 use Rattle.clk_words.specs.Views.{is_percpu, first_view, given_view}
 use Rattle.clk_machine.specs.Plan.{Plan, cpu_count, threads_of}
 use Rattle.clk_machine.specs.Records.{record_zero, above_base}
-use Rattle.clk_latch.specs.Epoch.{Epoch}
 use Rattle.clk_latch.specs.Epoch.{Place as LatchPlace}
 use Rattle.clk_local.specs.Context.{BeginsAtBase}
 use Rattle.clk_adjust.specs.declared.up.CpuUp.{CpuUp}
@@ -33,13 +31,12 @@ use Rattle.clk_trace.specs.Stamps.{Pair, no_pair, boot_pair, last_pair}
 use Rattle.clk_trace.specs.declared.trace.WatchTrace.{WatchTrace}
 use Rattle.clk_demote.specs.declared.events.StableStamp.{StableStamp}
 use Rattle.clk_demote.specs.declared.events.Demotion.{Demotion}
-use Rattle.clk_demote.specs.Context.{IsUnlifted}
 use Rattle.clk_demote.specs.Demotions.{offset_by}
-use Rattle.clk_watcher.specs.Making.{IsStable, has}
+use Rattle.clk_watcher.specs.Making.{IsStable}
 use Rattle.clk_watcher.specs.Making.{Hand as WatchHand, Begins as WatchBegins, MayBegin as MayWatch, BelongsTo as WatchBelongsTo, IsGoing as IsWatchGoing}
 use Rattle.clk_watcher.specs.declared.parts.WatchParts.{WatchParts}
-use Rattle.clk_threads.specs.Booting.{gtod_offset_of, stable_offset_of, sched_offset_of, opening_of, AreStamps}
-use Rattle.clk_threads.specs.Preparing.{start_of, gave, gave_threads, watch_seat, IsWatchLatch, HaveWatchLatches, watch_time, empty_watch, IsPrepared}
+use Rattle.clk_threads.specs.Booting.{gtod_offset_of, stable_offset_of, sched_offset_of, opening_of}
+use Rattle.clk_threads.specs.Preparing.{start_of, gave, gave_threads, watch_seat, IsWatchLatch, watch_time, empty_watch, IsPrepared}
 use Rattle.clk_threads.specs.Workers.{IsOfWatch, IsWatcherOf}
 use Rattle.clk_threads.specs.Ending.{shared_of, watch_seats_of, runs_stable}
 use Rattle.clk_threads.specs.declared.prepared.Prepared.{Prepared}

@@ -1,38 +1,31 @@
 -- What the watchdog of a run leaves: all its checks, made from fresh seats, and what those seats have at the end.
-use Rattle.std.proofs.Common.{◌≡◌, ℕ, ◌+◌, ◌<◌, ◌≤◌, ℤ, Bool, true, false, cond, not, ◌&&◌, List, [], ◌∷◌, ◌++◌, map, length, get_or, Option, Some, None, refl, sym, ap, ◌∙◌, subst, arith}
-use Rattle.std.specs.Prelude.{is_some, option_map}
-use Rattle.std.specs.List.{All, AllZip}
-use Rattle.std.proofs.lemmas.List.{get_or-map, length-map}
+use Rattle.std.proofs.Common.{◌≡◌, ℕ, ◌+◌, ℤ, Bool, true, false, cond, List, [], ◌∷◌, ◌++◌, map, length, Option, Some, None, refl, sym, ap, ◌∙◌, subst}
+use Rattle.std.specs.Prelude.{is_some}
+use Rattle.std.specs.List.{All}
+use Rattle.std.proofs.lemmas.List.{length-map}
 use Rattle.std.proofs.lemmas.List.Elements.{All-nil, All-cons, All-head}
 use Rattle.clk_base.specs.Walk.{EachFrom}
 use Rattle.clk_num.specs.Listed.{Listed}
 use Rattle.clk_ticket.specs.Time.{Time, share_of}
-use Rattle.clk_words.specs.declared.opening.Mode.TheVariants.{Stable, PerCpu}
 use Rattle.clk_words.specs.declared.opening.Start.{Start}
 use Rattle.clk_words.specs.declared.step.Step.{Step}
 use Rattle.clk_words.specs.declared.view.View.{View}
-use Rattle.clk_words.specs.Held.{Held, place_of}
+use Rattle.clk_words.specs.Held.{Held}
 use Rattle.clk_words.specs.Views.{own_lists}
 use Rattle.clk_machine.specs.Plan.{Plan, cpu_count, threads_of}
 use Rattle.clk_machine.specs.Records.{record_zero}
-use Rattle.clk_machine.specs.Tickets.{watch_tickets}
 use Rattle.clk_latch.specs.Epoch.{Epoch}
 use Rattle.clk_latch.specs.Epoch.{Place as LatchPlace}
-use Rattle.clk_watch.specs.Draws.{DrawsEach}
 use Rattle.clk_demote.specs.declared.events.StableStamp.{StableStamp}
 use Rattle.clk_demote.specs.declared.events.Demotion.{Demotion}
 use Rattle.clk_demote.specs.Context.{Site, Known}
-use Rattle.clk_trace.specs.Checks.{Visit, Check, listed}
-use Rattle.clk_trace.specs.Demoted.{boot_stamp}
-use Rattle.clk_trace.specs.Standing.{is_stable}
-use Rattle.clk_trace.specs.declared.trace.WatchTrace.{WatchTrace}
+use Rattle.clk_trace.specs.Checks.{Visit, Check}
 use Rattle.clk_worker.specs.declared.shared.Shared.{Shared}
 use Rattle.clk_watcher.specs.Checking.{StampsAt, DemotesAt, WatchesVisits, Watches, HasWatched}
 use Rattle.clk_watcher.specs.Making.{site_at, has}
 use Rattle.clk_watcher.specs.Making.{Hand as WatchHand, SeatsServe as WatchServe, IsGoing as IsWatchGoing, HasRun as HasRunWatch}
 use Rattle.clk_watcher.specs.declared.parts.WatchParts.{WatchParts}
-use Rattle.clk_threads.specs.Booting.{gtod_offset_of, sched_offset_of}
-use Rattle.clk_threads.specs.Preparing.{start_of, watch_seat, IsWatchLatch, watch_time, empty_watch, adjusts_of, IsPrepared}
+use Rattle.clk_threads.specs.Preparing.{start_of, watch_seat, IsWatchLatch, watch_time, adjusts_of, IsPrepared}
 use Rattle.clk_threads.specs.Finishing.{Watched, watch_site, IsGivenWatch}
 use Rattle.clk_threads.specs.Workers.{IsOfWatch, IsWatcherOf, HasWatchRun, WatcherRan}
 use Rattle.clk_threads.specs.Ending.{shared_of, watch_seats_of, runs_stable, part_list, parts_of}

@@ -1,6 +1,6 @@
 -- The lifts of the watchdog: one of each word, or none.
-use Rattle.std.proofs.Common.{◌≡◌, ℕ, zero, suc, ◌+◌, ◌<◌, ◌≤◌, ℤ, Bool, true, false, cond, nat_eq, List, [], ◌∷◌, ◌++◌, map, length, get_or, Option, Some, None, refl, sym, ap, ap₂, ◌∙◌, subst, arith, length-append}
-use Rattle.std.specs.Prelude.{is_some, option_map, IfSome}
+use Rattle.std.proofs.Common.{◌≡◌, ℕ, zero, suc, ◌+◌, ◌<◌, ◌≤◌, ℤ, Bool, true, false, cond, nat_eq, List, [], ◌∷◌, map, length, Option, Some, None, refl, sym, ap, ap₂, ◌∙◌, subst, arith, length-append}
+use Rattle.std.specs.Prelude.{option_map, IfSome}
 use Rattle.std.specs.List.{All, IsDistinct}
 use Rattle.std.proofs.lemmas.Bool.Decides.{nat_tests}
 use Rattle.std.proofs.lemmas.List.{map-append}
@@ -8,7 +8,7 @@ use Rattle.std.proofs.lemmas.List.Elements.{All-nil, All-cons, All-append, filte
 use Rattle.std.proofs.lemmas.Map.Keys.{IsDistinct-from_apart}
 use Rattle.clk_words.specs.declared.opening.Start.{Start}
 use Rattle.clk_words.specs.declared.step.Step.{Step}
-use Rattle.clk_machine.specs.Plan.{Plan, cpu_count, threads_of}
+use Rattle.clk_machine.specs.Plan.{cpu_count, threads_of}
 use Rattle.clk_ticket.specs.Time.{Time}
 use Rattle.clk_demote.specs.declared.events.Demotion.{Demotion}
 use Rattle.clk_demote.specs.Lifts.{lift_of, lifts_of}
@@ -22,7 +22,7 @@ use Rattle.clk_threads.specs.Preparing.{lifts_room}
 use Rattle.clk_threads.specs.Finishing.{watch_site}
 use Rattle.clk_threads.specs.declared.prepared.Prepared.{Prepared}
 use Rattle.clk_threads.proofs.Built.{IsBuilt, built_count, built_at}
-use Rattle.clk_threads.proofs.WatchLeaving.{HasWatchLeft, WatchLeft}
+use Rattle.clk_threads.proofs.WatchLeaving.{WatchLeft}
 
 -- there are few lifts: on words below n, none twice, and at most so many on each
 pub record FewLifts (n cap : ℕ) (watch : Option WatchTrace) : Type 0 where

@@ -53,8 +53,8 @@ pub record HasStamped (m : Plan) (before after : Time) (epoch : Epoch) (s : Stab
 
 -- ---- the start
 
--- the offsets by these stamps: the first takes monotonic time to the raw clock, and in a stable start the last takes the raw
--- clock there
+-- the offsets by these stamps: the first takes monotonic time to the raw clock, and in a stable start the last takes
+-- the raw clock there
 abbrev pub gtod_offset_of : List StableStamp → ℤ
 gtod_offset_of stamps = wrap ((first_pair no_pair stamps).raw -ℤ (first_pair no_pair stamps).gtod)
 
@@ -83,28 +83,28 @@ pub record AreStamps (m : Plan) (stamps : List StableStamp) : Type 0 where
   pub near : IsFrom0To (2 ^ 57) (above_base m (opens_of (opening_of m stamps None)))
   pub sched_near : IsNear 57 (sched_offset_of m stamps)
 
--- a demotion at boot after these stamps: it took a right stamp of CPU 0, went by the last of them, and the words open by it
--- near the machine's base
+-- a demotion at boot after these stamps: it took a right stamp of CPU 0, went by the last of them, and the words open
+-- by it near the machine's base
 pub record IsBootDemotion (m : Plan) (stamps : List StableStamp) (d : Demotion) : Type 0 where
   pub right : IsRightStamp m (taken_stamp d)
   pub is : (s : StableStamp) → IsDemotion (sched_offset_of m stamps) (gtod_offset_of stamps) (boot_stamp (gtod_offset_of stamps) s stamps) d
   pub opening : IsOpening (opening_of m stamps (Some d))
   pub near : IsFrom0To (2 ^ 57) (above_base m (opens_of (opening_of m stamps (Some d))))
 
-abbrev pub IsDemotedBy : Plan → List StableStamp → Option Demotion → Type 0
-IsDemotedBy m stamps demotion = (d : Demotion) → demotion ≡ Some d → IsBootDemotion m stamps d
+abbrev pub IsDemotedAtBootBy : Plan → List StableStamp → Option Demotion → Type 0
+IsDemotedAtBootBy m stamps demotion = (d : Demotion) → demotion ≡ Some d → IsBootDemotion m stamps d
 
 -- there is one exactly where a bring-up of a stable start failed
 pub record FitsBoot (m : Plan) (stamps : List StableStamp) (failed : Bool) (demotion : Option Demotion) : Type 0 where
   pub called : is_some demotion ≡ (m.stable && failed)
-  pub is : IsDemotedBy m stamps demotion
+  pub is : IsDemotedAtBootBy m stamps demotion
 
 -- what such a demotion draws
 abbrev pub demotion_tickets : Plan → Bool → ℕ
 demotion_tickets m failed = if m.stable && failed then 2 else 0
 
--- the seat drew the tickets of the epoch, of these stamps and of the readings of these CPUs' bring-up, the first of the run,
--- and has the rest
+-- the seat drew the tickets of the epoch, of these stamps and of the readings of these CPUs' bring-up, the first of the
+-- run, and has the rest
 pub record HasDrawnFirst (tickets : Tickets) (stamps : List StableStamp) (ups : List CpuUp) (time : Time) : Type 0 where
   pub table : time.table ≡ tickets.table
   pub blocks : time.blocks ≡ boot_blocks 0 stamps ++ up_blocks ups
@@ -147,7 +147,8 @@ pub record IsBooted (m : Plan) (b : Booted) : Type 0 where
   pub drawn : HasDrawnFirst b.tickets b.stamps.items [] b.time
   pub left : b.time.left + boot_tickets m ≡ most_tickets
 
--- and so are those of this bring-up after them; those of a demotion at boot, of all scripts and of the watchdog are left
+-- and so are those of this bring-up after them; those of a demotion at boot, of all scripts and of the watchdog are
+-- left
 pub record IsBootedFor (m : Plan) (up : BroughtUp) (b : Booted) : Type 0 where
   pub boot : HasBooted m b
   pub drawn : HasDrawnFirst b.tickets b.stamps.items up.cpus.items b.time

@@ -1,5 +1,5 @@
 -- How a run is opened, and how it is closed: the seats of all workers are joined again, and the tables answer.
-use Rattle.std.specs.Prelude.{◌≡◌, ℕ, ◌+◌, ◌<◌, ◌≤◌, Bool, true, false, not, ◌&&◌, is_some, List, [], ◌∷◌, ◌++◌, length, map, flat_map, slice_index_or, Option, Some, None, option_map, if◌then◌else◌}
+use Rattle.std.specs.Prelude.{◌≡◌, ℕ, ◌+◌, ◌<◌, ◌≤◌, Bool, true, not, ◌&&◌, is_some, List, [], ◌∷◌, ◌++◌, length, map, flat_map, slice_index_or, Option, Some, None, option_map, if◌then◌else◌}
 use Rattle.std.specs.List.{All, sum_by}
 use mathlib.Core.List.{IsPrefix}
 use Rattle.clk_base.specs.Blocks.{Covers}
@@ -117,7 +117,8 @@ abbrev pub all_together : View → List View → View
 all_together v [] = v
 all_together v (w ∷ views) = all_together (together v w) views
 
--- the two seats have what those of all workers had, and the events and the latch seat of each worker were kept, in order
+-- the two seats have what those of all workers had, and the events and the latch seat of each worker were kept, in
+-- order
 pub record HasGathered (s : Shared) (hands : List Hand) (first : Held) (time : Time) (threads : Listed (Listed Event)) (latches : Listed LatchPlace)
     (whole : Held) (drawn : Time) (kept : Listed (Listed Event)) (seats : Listed LatchPlace) : Type 0 where
   pub whole_own : place_of whole ≡ s.words
@@ -148,7 +149,8 @@ pub record FitLatches (s : Shared) (seats : List LatchPlace) : Type 0 where
 abbrev pub RecordsBegin : Plan → List LatchPlace → ℕ → LatchPlace → Type 0
 RecordsBegin m seats thread s = (d : LatchPlace) → IsPrefix s.epoch.records (slice_index_or seats (thread_at m thread).0 d).epoch.records
 
--- the seats of the CPUs' own threads are left, each of its CPU's latch, with the owner's right and the records that it had
+-- the seats of the CPUs' own threads are left, each of its CPU's latch, with the owner's right and the records that it
+-- had
 pub record IsOwnerLeft (s : Shared) (seats : List LatchPlace) (cpu : ℕ) (o : LatchPlace) : Type 0 where
   pub latch : o.latch ≡ slice_index_or s.epochs.items cpu o.latch
   pub owner : o.epoch.owner ≡ true

@@ -1,5 +1,5 @@
--- What a whole run is made of: how each thread began and ended, and what the tables answered at the end. A runner's own; the
--- lawful trace is what is to be believed.
+-- What a whole run is made of: how each thread began and ended, and what the tables answered at the end. A runner's
+-- own; the lawful trace is what is to be believed.
 use Rattle.std.specs.Prelude.{◌≡◌, ℕ, ◌+◌, ◌<◌, ◌≤◌, Bool, true, false, nat_lt, List, [], ◌∷◌, ◌++◌, map, flat_map, length, slice_index_or, is_some, ◌⊎◌, Option, Some, None, option_map, if◌then◌else◌}
 use Rattle.std.specs.List.{All}
 use mathlib.Core.List.{IsPrefix}
@@ -55,8 +55,8 @@ pub record Ran : Type 0 where
 abbrev pub events_of : List Ran → List (Listed Event)
 events_of rans = map (λ r. r.events) rans
 
--- the own seat of a thread as it was given: it has made and seen nothing, and in a per-CPU start alone it knows each pair of the
--- opening, and the offset
+-- the own seat of a thread as it was given: it has made and seen nothing, and in a per-CPU start alone it knows each
+-- pair of the opening, and the offset
 pub record IsGiven (start : Start) (thread : ℕ) (kind : SeatKind) (v : View) : Type 0 where
   pub start_is : v.start ≡ start
   pub number_is : v.number ≡ thread + 1
@@ -88,8 +88,8 @@ pub record KnowsNoMore (v w : View) : Type 0 where
   pub parts : (r : ℕ) → PartBegins (part_of v.pairs.parts r) (part_of w.pairs.parts r)
   pub offset : (v.modes.offset ≡ None) ⊎ (v.modes.offset ≡ w.modes.offset)
 
--- what a thread on this CPU knew at its end of the CPU's stamps after stamp 0, and of its records, begins what the CPU's own
--- thread knew
+-- what a thread on this CPU knew at its end of the CPU's stamps after stamp 0, and of its records, begins what the
+-- CPU's own thread knew
 pub record FollowsOwner (cpu : ℕ) (rans : List Ran) (r : Ran) : Type 0 where
   pub raws : (d : Ran) → Begins (part_of r.ended.view.pairs.parts (raw_of cpu)).after (part_of (slice_index_or rans cpu d).ended.view.pairs.parts (raw_of cpu)).after
   pub gtods : (d : Ran) → Begins (part_of r.ended.view.pairs.parts (gtod_of cpu)).after (part_of (slice_index_or rans cpu d).ended.view.pairs.parts (gtod_of cpu)).after
@@ -117,8 +117,8 @@ pub record IsGivenWatch (start : Start) (threads : ℕ) (v : View) : Type 0 wher
   pub watch_is : v.modes.watch ≡ true
   pub held_is : v.modes.held ≡ Some start.opening.offset
 
--- from its fresh seats on it made all its checks: stable as the scripts begin if `stable` says so; the ticket word had reached
--- `low` by then. What it found of each CPU's records begins what the CPU's own thread had at its end
+-- from its fresh seats on it made all its checks: stable as the scripts begin if `stable` says so; the ticket word had
+-- reached `low` by then. What it found of each CPU's records begins what the CPU's own thread had at its end
 pub record WatchedWhole (m : Plan) (stamps : List StableStamp) (up : BroughtUp) (start : Start) (stable : Bool) (low : ℕ) (rans : List Ran) (w : Watched) : Type 0 where
   pub given : IsGivenWatch start (length (threads_of m)) w.began.view
   pub records : All (λ e. (e.records ≡ record_zero m ∷ []) × (e.owner ≡ false)) w.began.epochs
@@ -132,8 +132,9 @@ pub record WatchedWhole (m : Plan) (stamps : List StableStamp) (up : BroughtUp) 
 
 -- ---- the run
 
--- the trace shows a boot by these stamps, a bring-up after it, a run of each thread's whole script from there, and what the
--- tables answered at their end: the words' history, complete for a seat that was joined with all others, and the number of tickets
+-- the trace shows a boot by these stamps, a bring-up after it, a run of each thread's whole script from there, and what
+-- the tables answered at their end: the words' history, complete for a seat that was joined with all others, and the
+-- number of tickets
 pub record IsRunOf (m : Plan) (t : Trace) (closed : List Step) : Type 0 where
   pub limits : IsWithinLimits m
   -- the boot

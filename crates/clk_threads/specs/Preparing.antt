@@ -158,8 +158,8 @@ histories_below m (suc n) = histories_below m n ++ no_steps m n ∷ []
 abbrev pub adjusts_of : List CpuUp → List ℤ
 adjusts_of ups = pos 0 ∷ map (λ up. up.adjust) ups
 
--- what a watchdog fills: nothing yet, with room for an item of each check, and for a lift of each CPU. Its TSC source was lost
--- at boot where a bring-up failed
+-- what a watchdog fills: nothing yet, with room for an item of each check, and for a lift of each CPU. Its TSC source
+-- was lost at boot where a bring-up failed
 abbrev pub no_items : {A : Type 0} → ℕ → Listed A
 no_items n = record { items = []; room = n }
 
@@ -189,7 +189,8 @@ pub record AreLists (m : Plan) (up : BroughtUp) (l : Lists) : Type 0 where
 
 -- ---- what takes memory
 
--- the seats and the lists of a run after this boot and this demotion at boot, whose seat gave the tickets of the scripts away
+-- the seats and the lists of a run after this boot and this demotion at boot, whose seat gave the tickets of the
+-- scripts away
 pub record IsMade (b : Booted) (up : BroughtUp) (demotion : Option Demotion) (made : Made) : Type 0 where
   pub before : Time
   pub booted : IsDemotedFor b.machine up demotion (record b { time = before })

@@ -3,9 +3,6 @@ use Rattle.std.specs.Prelude.{◌≡◌, ℕ, ◌<◌, ℤ, pos, List, [], ◌�
 use Rattle.std.specs.List.{All}
 use Rattle.clk_base.specs.Walk.{EachFrom}
 use Rattle.clk_num.specs.Listed.{Listed}
-use Rattle.clk_words.specs.Held.{Held}
-use Rattle.clk_ticket.specs.Time.{Time}
-use Rattle.clk_latch.specs.Epoch.{Place as LatchPlace}
 use Rattle.clk_machine.specs.Plan.{Plan, thread_at}
 use Rattle.clk_demote.specs.declared.events.StableStamp.{StableStamp}
 use Rattle.clk_trace.specs.Checks.{listed}

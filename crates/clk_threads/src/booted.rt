@@ -30,18 +30,19 @@ pub struct Booted {
     pub epoch: Published,
     /// The stamps of CPU 0: one, and in a stable start two.
     pub stamps: List<StableStamp>,
-    /// In ns, what takes a raw reading to the stable clock: `__sched_clock_offset` of Linux 6.1's `kernel/sched/clock.c`. 0
-    /// where the clock does not start stable, and else within 2^57 of 0.
+    /// In ns, what takes a raw reading to the stable clock: `__sched_clock_offset` of Linux 6.1's
+    /// `kernel/sched/clock.c`. 0 where the clock does not start stable, and else within 2^57 of 0.
     pub sched_offset: i64,
     /// In ns, what takes monotonic time to the scheduler clock, which wraps: `__gtod_offset` there.
     pub gtod_offset: i64,
 }
 
-/// Boots CPU 0: it reads the epoch and stamps, with the first 3 tickets, or 5 where the clock starts stable. The error is
-/// want of memory.
+/// Boots CPU 0: it reads the epoch and stamps, with the first 3 tickets, or 5 where the clock starts stable. The error
+/// is want of memory.
 ///
-/// The offset of monotonic time is by the first stamp, as `__sched_clock_gtod_offset` of Linux 6.1's `kernel/sched/clock.c`
-/// sets it in `sched_clock_init`, and that of the stable clock by the second, as in `__set_sched_clock_stable`.
+/// The offset of monotonic time is by the first stamp, as `__sched_clock_gtod_offset` of Linux 6.1's
+/// `kernel/sched/clock.c` sets it in `sched_clock_init`, and that of the stable clock by the second, as in
+/// `__set_sched_clock_stable`.
 pub fn boot(alloc: Global, machine: Machine) -> Result<Booted, AllocError>
     ensures { IfOk result (IsBooted machine) }
 {
@@ -62,8 +63,8 @@ pub fn boot(alloc: Global, machine: Machine) -> Result<Booted, AllocError>
     })
 }
 
-/// Record 0: the counter of CPU 0 at the first ticket, which is ticket 0, since all tickets were left before, and the base
-/// of the machine's clocks in ns.
+/// Record 0: the counter of CPU 0 at the first ticket, which is ticket 0, since all tickets were left before, and the
+/// base of the machine's clocks in ns.
 fn read_epoch(machine: &Machine, tickets: &TicketTable, time: &mut TimeSeat) -> Published
     requires limits { IsWithinLimits machine.now }
     requires time { time.old ≡ fresh tickets.now.table most_tickets 0 }

@@ -8,11 +8,12 @@ use clk_demote::{Demotion, demotion_after};
 use clk_latch::{Epochs, Latch};
 use std::alloc::{AllocError, Global};
 
-/// Demotes where this bring-up of a stable start failed, by a stamp of CPU 0 with the next two tickets, and else does nothing.
-/// The demotion goes by the last stamp of the boot. The error is want of memory.
+/// Demotes where this bring-up of a stable start failed, by a stamp of CPU 0 with the next two tickets, and else does
+/// nothing. The demotion goes by the last stamp of the boot. The error is want of memory.
 ///
-/// After `mark_tsc_unstable` of Linux 6.1's `arch/x86/kernel/tsc.c`, which `check_tsc_sync_source` calls where a bring-up
-/// fails: by `clear_sched_clock_stable` it has `__sched_clock_work` of `kernel/sched/clock.c` end the stable mode.
+/// After `mark_tsc_unstable` of Linux 6.1's `arch/x86/kernel/tsc.c`, which `check_tsc_sync_source` calls where a
+/// bring-up fails: by `clear_sched_clock_stable` it has `__sched_clock_work` of `kernel/sched/clock.c` end the stable
+/// mode.
 pub(crate) fn demote_at_boot(
     alloc: Global,
     booted: &mut Booted,

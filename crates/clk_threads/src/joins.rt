@@ -6,8 +6,9 @@ use clk_latch::{Epochs, LatchSeat};
 use clk_num::List;
 use clk_worker::Shared;
 
-/// Joins the latch seat of each reader with the one of its CPU's own thread: so the records that it has seen begin those that
-/// this thread has. It answers the seats of the CPUs' own threads. The seats are those of all threads, in order, and so the last one is a reader's while there are readers.
+/// Joins the latch seat of each reader with the one of its CPU's own thread: so the records that it has seen begin
+/// those that this thread has. It answers the seats of the CPUs' own threads. The seats are those of all threads, in
+/// order, and so the last one is a reader's while there are readers.
 pub(crate) fn join_latches(shared: &Shared, seats: List<LatchSeat>) -> List<LatchSeat>
     requires { FitLatches shared.now seats.items }
     ensures readers { EachFrom (RecordsBegin shared.now.machine seats.items) 0 seats.items }
@@ -24,8 +25,8 @@ pub(crate) fn join_latches(shared: &Shared, seats: List<LatchSeat>) -> List<Latc
     List::from_vec(seats)
 }
 
-/// Joins the watchdog's seat at each latch with the owner's, which are those of all CPUs, in order: so the records that it has
-/// seen begin those that the CPU's own thread has.
+/// Joins the watchdog's seat at each latch with the owner's, which are those of all CPUs, in order: so the records that
+/// it has seen begin those that the CPU's own thread has.
 pub(crate) fn join_watch(shared: &Shared, mut owners: List<LatchSeat>, mut watch: List<LatchSeat>)
     requires { FitWatch shared.now owners.items watch.items }
     ensures { EachFrom (WatchFollows owners.items) 0 watch.items }

@@ -25,8 +25,9 @@ pub struct Latches {
     pub watch: List<LatchSeat>,
 }
 
-/// A latch with record 0 for each CPU, whose owner's seat is that of the CPU's own thread; and the seat of each reader, split
-/// off its CPU's owner's, and so a seat of the watchdog at each latch, if there is a watchdog. The error is want of memory.
+/// A latch with record 0 for each CPU, whose owner's seat is that of the CPU's own thread; and the seat of each reader,
+/// split off its CPU's owner's, and so a seat of the watchdog at each latch, if there is a watchdog. The error is want
+/// of memory.
 pub(crate) fn make_latches(
     alloc: Global,
     zero: Published,

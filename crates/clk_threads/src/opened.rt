@@ -4,7 +4,7 @@ ghost use Rattle.clk_machine.specs.Plan.{cpu_count, threads_of};
 ghost use Rattle.clk_machine.specs.Limits.{IsWithinLimits};
 ghost use Rattle.clk_words.specs.Views.{first_view};
 ghost use Rattle.clk_words.specs.declared.opening.Mode.TheVariants.{Stable as StableMode, PerCpu as PerCpuMode};
-ghost use Rattle.clk_threads.specs.Booting.{AreStamps, IsDemotedBy, gtod_offset_of, opening_of};
+ghost use Rattle.clk_threads.specs.Booting.{AreStamps, IsDemotedAtBootBy, gtod_offset_of, opening_of};
 ghost use Rattle.clk_threads.specs.Preparing.{kind_on, gave, gave_threads, gave_all, thread_seats, watch_seat, HasOpened};
 
 use crate::watchdog::has_watchdog;
@@ -26,8 +26,8 @@ pub struct Opened {
     pub first: Seat,
 }
 
-/// Opens the clock words by the last stamp of the boot, or by a demotion at boot, and splits a seat off for each thread, in
-/// order, and then one for the watchdog, if there is one. The error is want of memory.
+/// Opens the clock words by the last stamp of the boot, or by a demotion at boot, and splits a seat off for each
+/// thread, in order, and then one for the watchdog, if there is one. The error is want of memory.
 pub(crate) fn open_words(
     alloc: Global,
     machine: &Machine,
@@ -37,7 +37,7 @@ pub(crate) fn open_words(
 ) -> Result<Opened, AllocError>
     requires stamps { AreStamps machine.now stamps.now }
     requires offset { gtod_offset ≡ gtod_offset_of stamps.now }
-    requires demotion { IsDemotedBy machine.now stamps.now demotion }
+    requires demotion { IsDemotedAtBootBy machine.now stamps.now demotion }
     ensures { IfOk result (HasOpened machine.now stamps.now demotion) }
 {
     let cpus = machine.cpus();
@@ -54,7 +54,8 @@ pub(crate) fn open_words(
     })
 }
 
-/// What the clock words begin with: the pair of the last stamp, or that of a demotion at boot, by which the clock is per-CPU.
+/// What the clock words begin with: the pair of the last stamp, or that of a demotion at boot, by which the clock is
+/// per-CPU.
 pub(crate) fn opening_by(
     machine: &Machine,
     stamps: &[StableStamp],
@@ -134,7 +135,8 @@ fn kind_of(machine: &Machine, thread: u32) -> SeatKind
     }
 }
 
-/// Splits the watchdog's seat off the first seat, if there is a watchdog: it gets the number after those of the threads.
+/// Splits the watchdog's seat off the first seat, if there is a watchdog: it gets the number after those of the
+/// threads.
 fn split_watch(machine: &Machine, words: &Words, first: &mut Seat) -> Option<Seat>
     requires limits { IsWithinLimits machine.now }
     requires first { first.old ≡ record { table = words.now.table; view = gave_threads machine.now words.now.start } }

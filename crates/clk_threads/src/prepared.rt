@@ -26,8 +26,8 @@ pub struct Prepared {
     pub opened: Opened,
     /// The latch of each CPU, the seat of each thread at its CPU's, and those of the watchdog.
     pub latches: Latches,
-    /// The seat of each thread at the tickets, with those of its script, that of the watchdog, if there is one, with those of
-    /// its checks, and the seat that has the rest.
+    /// The seat of each thread at the tickets, with those of its script, that of the watchdog, if there is one, with
+    /// those of its checks, and the seat that has the rest.
     pub times: List<TimeSeat>,
     pub watch_time: Option<TimeSeat>,
     pub time: TimeSeat,
@@ -44,11 +44,12 @@ pub struct Prepared {
     pub boot_demotion: Option<Demotion>,
 }
 
-/// Prepares the run of a machine that [`crate::boot`] booted and [`clk_adjust::bring_up`] brought up, by that boot's seat.
-/// Where that bring-up of a stable start failed it demotes first: a stamp of CPU 0 ends the stable mode. The clock words open
-/// by the last stamp, each CPU gets its latch by record 0, and each thread its seats, after `sched_clock_init` and
-/// `__set_sched_clock_stable` of Linux 6.1's `kernel/sched/clock.c`, by which every CPU begins with the boot CPU's stamp.
-/// So does the watchdog, if there is one, at every latch. It takes all memory of the run. The error is want of memory.
+/// Prepares the run of a machine that [`crate::boot`] booted and [`clk_adjust::bring_up`] brought up, by that boot's
+/// seat. Where that bring-up of a stable start failed it demotes first: a stamp of CPU 0 ends the stable mode. The
+/// clock words open by the last stamp, each CPU gets its latch by record 0, and each thread its seats, after
+/// `sched_clock_init` and `__set_sched_clock_stable` of Linux 6.1's `kernel/sched/clock.c`, by which every CPU begins
+/// with the boot CPU's stamp. So does the watchdog, if there is one, at every latch. It takes all memory of the run.
+/// The error is want of memory.
 ///
 /// From here on the counter of each CPU is adjusted by what its bring-up found.
 pub fn prepare(alloc: Global, booted: Booted, up: BroughtUp) -> Result<Prepared, AllocError>

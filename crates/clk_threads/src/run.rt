@@ -1,9 +1,9 @@
-//! A whole run: each thread makes its script on a thread of its own, the watchdog its checks beside them, and the tables answer
-//! at its end.
+//! A whole run: each thread makes its script on a thread of its own, the watchdog its checks beside them, and the
+//! tables answer at its end.
 ghost use Rattle.std.specs.Prelude.{◌≡◌, not, ◌&&◌, is_some, length};
 ghost use Rattle.clk_words.specs.Bounds.{opens_of};
 ghost use Rattle.clk_trace.specs.LawfulTrace.{IsLawful};
-ghost use Rattle.clk_trace.specs.WatchText.{MayWriteWatch};
+ghost use Rattle.clk_trace.specs.WritableWatch.{MayWriteWatch};
 ghost use Rattle.clk_threads.specs.Booting.{AreStamps, gtod_offset_of, opening_of};
 ghost use Rattle.clk_threads.specs.Preparing.{IsPrepared};
 ghost use Rattle.clk_threads.specs.Finishing.{ShowsHistory};
@@ -32,14 +32,14 @@ pub struct Finished {
     pub closed: Closed,
 }
 
-/// Runs a machine that was prepared, each CPU's own thread, each reader and the watchdog on a thread of its own, and answers
-/// the trace, which is lawful, with the words at their end, whose history the trace shows. Each word of a script and each check
-/// of the watchdog passes the gate first, which may hold it there. It takes no memory, and waits for nothing but the gate and
-/// the threads' ends. Where the system can make no thread the scripts run one after another, so a gate that waits for another
-/// thread may hold the run for ever.
+/// Runs a machine that was prepared, each CPU's own thread, each reader and the watchdog on a thread of its own, and
+/// answers the trace, which is lawful, with the words at their end, whose history the trace shows. Each word of a
+/// script and each check of the watchdog passes the gate first, which may hold it there. It takes no memory, and waits
+/// for nothing but the gate and the threads' ends. Where the system can make no thread the scripts run one after
+/// another, so a gate that waits for another thread may hold the run for ever.
 ///
-/// The trace shows the bring-up too, and a demotion at boot. The clock may start in either mode: in a stable start it is the
-/// watchdog that ends the stable mode, if any does.
+/// The trace shows the bring-up too, and a demotion at boot. The clock may start in either mode: in a stable start it
+/// is the watchdog that ends the stable mode, if any does.
 pub fn run_cpus<R: Threads + Sync, G: Gate + Sync>(rt: &R, prepared: Prepared, gate: &G) -> Finished
     requires prepared { IsPrepared prepared.machine prepared }
     ensures lawful { IsLawful prepared.machine result.trace }
@@ -73,7 +73,8 @@ struct RunParts {
     shared: Shared,
     workers: List<Worker>,
     watcher: Option<Watcher>,
-    /// The seat at the clock words that gave the workers and the watcher theirs, and the one that has the rest of the tickets.
+    /// The seat at the clock words that gave the workers and the watcher theirs, and the one that has the rest of the
+    /// tickets.
     first: Seat,
     time: TimeSeat,
     /// Empty, with room for the workers' seats at the latches.
@@ -215,8 +216,9 @@ fn start_word(
     opening.tick_gtod.wrapping_add(opening.offset)
 }
 
-/// Takes the workers and the watcher apart, joins their seats with the first ones and those at the latches with the owners',
-/// asks the tables for the words' history and for how many tickets were drawn, and finds the histories of the trace.
+/// Takes the workers and the watcher apart, joins their seats with the first ones and those at the latches with the
+/// owners', asks the tables for the words' history and for how many tickets were drawn, and finds the histories of the
+/// trace.
 fn close_run(parts: RunParts) -> Finished
     requires { MayClose parts }
     ensures { HasClosed parts result }
@@ -249,8 +251,8 @@ fn close_run(parts: RunParts) -> Finished
     }
 }
 
-/// Joins the watchdog's seats with these two and with the owners' at the latches, if there is a watchdog, and answers what it
-/// left for the trace.
+/// Joins the watchdog's seats with these two and with the owners' at the latches, if there is a watchdog, and answers
+/// what it left for the trace.
 fn gather_watch(
     shared: &Shared,
     watcher: Option<Watcher>,

@@ -36,8 +36,8 @@ pub(crate) fn checks(machine: &Machine) -> usize
     }
 }
 
-/// The tickets of all checks: each pauses, reads each source in as many attempts as it may, of four tickets each, and may
-/// stamp, with two.
+/// The tickets of all checks: each pauses, reads each source in as many attempts as it may, of four tickets each, and
+/// may stamp, with two.
 pub(crate) fn tickets_of_watch(machine: &Machine) -> u64
     requires limits { IsWithinLimits machine.now }
     ensures { result ≡ watch_tickets machine.now machine.now.watchdog }

@@ -87,8 +87,8 @@ pub(crate) struct WatchSeats {
     pub(crate) trace: Option<WatchTrace>,
 }
 
-/// The watcher, if there are seats for one. At first it goes by the last of these stamps. `stable` says whether the clock is
-/// stable as the scripts begin.
+/// The watcher, if there are seats for one. At first it goes by the last of these stamps. `stable` says whether the
+/// clock is stable as the scripts begin.
 pub(crate) fn make_watcher(
     stamps: &[StableStamp],
     seats: WatchSeats,
@@ -123,8 +123,8 @@ pub(crate) fn make_watcher(
     }
 }
 
-/// Each worker makes all words of its script, on a thread of its own, and beside them the watcher, if there is one, all its
-/// checks.
+/// Each worker makes all words of its script, on a thread of its own, and beside them the watcher, if there is one, all
+/// its checks.
 pub(crate) fn run_all<R: Threads + Sync, G: Gate + Sync>(
     rt: &R,
     shared: &Shared,

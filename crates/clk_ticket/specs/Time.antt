@@ -31,8 +31,8 @@ abbrev pub after_draw : Time → ℕ → ℕ → Time
 after_draw t first n =
     record t { left = t.left - n; blocks = t.blocks ++ (record { first = first; count = n }) ∷ []; seen = first + n }
 
--- a draw of n tickets: a block above all that the seat had seen, so that its blocks rise. What is left to a seat of the
--- table's tickets is still to be drawn: no block leaves less
+-- a draw of n tickets: a block above all that the seat had seen, so that its blocks rise. The block ends by 2^26, and
+-- so would one of the seat's whole budget from its first number on
 pub record Draws (before : Time) (first n : ℕ) (after : Time) : Type 0 where
   pub is : after ≡ after_draw before first n
   pub later : before.seen ≤ first

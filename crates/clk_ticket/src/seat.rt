@@ -7,8 +7,9 @@ use std::marker::Model;
 
 /// A thread's place at a `TicketTable`, with a budget of tickets. It has no bytes but that number.
 ///
-/// A contract sees it as a `Time`: `table` says which table it belongs to, `left` is its budget, `blocks` are the blocks
-/// that it drew and those that it took over by joins, in that order, and `seen` is a number that the word had reached.
+/// A contract sees it as a `Time`: `table` says which table it belongs to, `left` is its budget, `blocks` are the
+/// blocks that it drew and those that it took over by joins, in that order, and `seen` is a number that the word had
+/// reached.
 #[derive(Drop)]
 pub struct TimeSeat {
     pub(crate) seat: Seat<(), Knows>,

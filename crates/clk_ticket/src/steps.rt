@@ -20,8 +20,8 @@ impl TicketTable {
         self.table.shared.fetch_add::<Draw>(&mut seat.seat, 0, n)
     }
 
-    /// A new seat with `left` of the seat's budget, which has no blocks and has seen all that `seat` has seen. One load,
-    /// which takes no memory and does not wait.
+    /// A new seat with `left` of the seat's budget, which has no blocks and has seen all that `seat` has seen. One
+    /// load, which takes no memory and does not wait.
     pub fn split(&self, seat: &mut TimeSeat, left: u64) -> TimeSeat
         requires own { seat.old.table ≡ self.now.table }
         requires within { left ≤ seat.old.left }

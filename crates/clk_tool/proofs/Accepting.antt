@@ -1,7 +1,11 @@
--- A source that holds a machine is not refused.
-use Rattle.std.proofs.Common.{◌≡◌, ◌⊎◌, ℕ, ◌+◌, ◌≤◌, List, length, Option, Some, None, refl, inl, inr, arith, length-append, append-nil}
+-- A source that holds a machine is not refused, and one whose bytes are refused is refused so.
+use Rattle.std.proofs.Common.{◌≡◌, ◌⊎◌, ℕ, ◌+◌, ◌<◌, ◌≤◌, nat_le, true, false, List, length, Option, Some, None, refl, sym, ◌∙◌, ap, inl, inr, arith, length-append, append-nil}
+use Rattle.std.proofs.lemmas.Bool.Decides.{nat_tests}
 use Rattle.std.specs.Io.KnownBytes.{Consumes, IsAtEnd}
-use Rattle.clk_tool.specs.Answers.{CameRefused, IsCause, HoldsMachine, IsOfFile, IsOfRun}
+use Rattle.clk_machine.specs.Plan.{Plan}
+use Rattle.clk_file.specs.Acceptance.{accepted}
+use Rattle.clk_tool.specs.Whole.{Came}
+use Rattle.clk_tool.specs.Answers.{CameMachine, CameRefused, IsCause, HoldsMachine, refusal_of, refusal_in, HoldsRefused, IsOfFile, IsOfRun}
 use Rattle.clk_tool.specs.declared.status.Status.{Status}
 use Rattle.clk_tool.specs.declared.status.Status.TheVariants.{Done, Usage, ReadFault, Refused, WriteFault, Memory}
 use Rattle.clk_tool.specs.declared.status.Refusal.{Refusal}
@@ -49,3 +53,57 @@ memory_alone ReadFault is no_fault no_refusal = absurd (no_fault refl)
 memory_alone (Refused r) is no_fault no_refusal = absurd (no_refusal r refl)
 memory_alone WriteFault is no_fault no_refusal = absurd is
 memory_alone Memory is no_fault no_refusal = refl
+
+-- ---- refused so
+
+le_test : (m n : ℕ) → m ≤ n → nat_le m n ≡ true
+le_test m n h = grind (arith, nat_tests)
+
+gt_test : (m n : ℕ) → n < m → nat_le m n ≡ false
+gt_test m n h = grind (arith, nat_tests)
+
+few : (limit : ℕ) (bytes : List ℕ) → length bytes ≤ limit → refusal_in limit bytes ≡ refusal_of (accepted bytes)
+few limit bytes short = rw (le_test (length bytes) limit short) refl
+
+many : (limit : ℕ) (bytes : List ℕ) → limit < length bytes → refusal_in limit bytes ≡ Some TooLong
+many limit bytes long = rw (gt_test (length bytes) limit long) refl
+
+taken : (held xs : List ℕ) (after : Option (List ℕ)) → Consumes (Some held) after xs → length xs ≤ length held
+taken held xs (Some left) came =
+    let whole : length held ≡ length xs + length left = rw came (length-append xs left) in
+    omega (arith, whole)
+taken held xs None came = absurd came
+
+module _ (limit : ℕ) (before after : Option (List ℕ)) (r : Refusal) (h : HoldsRefused limit before r) where
+  came_few : (bytes : List ℕ) → Came limit before after bytes → refusal_of (accepted bytes) ≡ Some r
+  came_few bytes came =
+      let same = all_came h.bytes bytes after (rw h.told at came.consumed) came.end in
+      sym (few limit bytes came.short) ∙ (rw same at h.refused)
+
+  pub holds_no_machine : (m : Plan) → ¬ CameMachine limit before after m
+  holds_no_machine m = λ c.
+      let refused = rw c.machine at (came_few c.bytes c.came) in
+      absurd (cc refused)
+
+  came_so : (q : Refusal) → CameRefused limit before after q → q ≡ r
+  came_so q c = let same = sym c.refused ∙ came_few c.bytes c.came in cc same
+
+  pub refused_so : (q : Refusal) → IsCause limit before after q → q ≡ r
+  refused_so TooLong c =
+      let more = taken h.bytes c.0 after (rw h.told at c.1) in
+      let same = sym (many limit h.bytes (omega (arith, more, c.2))) ∙ h.refused in
+      cc same
+  refused_so NotToml c = came_so NotToml c
+  refused_so (Key place) c = came_so (Key place) c
+  refused_so (Value place) c = came_so (Value place) c
+  refused_so (Word place) c = came_so (Word place) c
+  refused_so (Cpu place) c = came_so (Cpu place) c
+  refused_so (Tickets needed) c = came_so (Tickets needed) c
+
+pub refused_or_memory : (r : Refusal) (s : Status) → IsOfFile s → ¬ (s ≡ ReadFault) → ((q : Refusal) → s ≡ Refused q → q ≡ r) → (s ≡ Refused r) ⊎ (s ≡ Memory)
+refused_or_memory r Done is no_fault so = absurd is
+refused_or_memory r Usage is no_fault so = absurd is
+refused_or_memory r ReadFault is no_fault so = absurd (no_fault refl)
+refused_or_memory r (Refused q) is no_fault so = inl (ap Refused (so q refl))
+refused_or_memory r WriteFault is no_fault so = absurd is
+refused_or_memory r Memory is no_fault so = inr refl

@@ -1,3 +1,4 @@
 pub mod Accepting
+pub mod Making
 pub mod Numbers
 pub mod ReadingWhole

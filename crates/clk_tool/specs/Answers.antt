@@ -1,5 +1,5 @@
 -- What the answers of the program mean.
-use Rattle.std.specs.Prelude.{◌≡◌, ℕ, ◌≤◌, List, length, Option, Some, None, Result, Ok, Err}
+use Rattle.std.specs.Prelude.{◌≡◌, ℕ, ◌≤◌, nat_le, List, length, Option, Some, None, Result, Ok, Err, if◌then◌else◌}
 use Rattle.clk_machine.specs.Plan.{Plan}
 use Rattle.clk_file.specs.Acceptance.{accepted}
 use Rattle.clk_file.specs.declared.error.FileError.{FileError}
@@ -7,6 +7,7 @@ use Rattle.clk_file.specs.declared.error.FileError.TheVariants as file
 use Rattle.clk_trace.specs.TraceText.{text}
 use Rattle.clk_trace.specs.LawfulTrace.{IsLawful}
 use Rattle.clk_trace.specs.declared.trace.Trace.{Trace}
+use Rattle.clk_tool.specs.Make.{MadeRun}
 use Rattle.clk_tool.specs.Rate.{rate_text}
 use Rattle.clk_tool.specs.Whole.{Came, CameMore}
 use Rattle.clk_tool.specs.declared.command.Command.{Command}
@@ -43,17 +44,26 @@ pub record Ran (limit : ℕ) (before after : Option (List ℕ)) (Written : List 
   pub came : CameMachine limit before after machine
   pub traced : Traced machine Written
 
--- what a command makes of its source was written so: of `run` the trace of the machine that came, and of `rate` the
--- lines of the rate
+-- what a command makes of its source was written so: of `run` the trace of the machine that came, of `rate` the lines
+-- of the rate, and of `make` the lines of a lawful run of the machine that is made
 abbrev pub Answered : Option Command → ℕ → Option (List ℕ) → Option (List ℕ) → (List ℕ → Type 0) → Type 0
 Answered (Some command.Run) limit before after Written = Ran limit before after Written
 Answered (Some (command.Rate hz bits)) limit before after Written = Written (rate_text hz bits)
+Answered (Some (command.Make n)) limit before after Written = MadeRun n Written
 Answered None limit before after Written = ⊥
 
--- the command is `rate`
+-- the command is `rate`, or `make`
 abbrev pub IsRate : Option Command → Type 0
+IsRate (Some command.Run) = ⊥
 IsRate (Some (command.Rate hz bits)) = Unit {0}
-IsRate _ = ⊥
+IsRate (Some (command.Make n)) = ⊥
+IsRate None = ⊥
+
+abbrev pub IsMake : Option Command → Type 0
+IsMake (Some command.Run) = ⊥
+IsMake (Some (command.Rate hz bits)) = ⊥
+IsMake (Some (command.Make n)) = Unit {0}
+IsMake None = ⊥
 
 -- the refusal of a file that came whole, by what its bytes are: the first failing test
 abbrev pub refusal_of : Result Plan FileError → Option Refusal
@@ -95,11 +105,24 @@ pub record HoldsMachine (limit : ℕ) (rest : Option (List ℕ)) : Type 0 where
   pub plan : Plan
   pub machine : accepted bytes ≡ Ok plan
 
+-- how the bytes of a file are refused, if they are: there are too many, or by what they are
+abbrev pub refusal_in : ℕ → List ℕ → Option Refusal
+refusal_in limit bytes = if nat_le (length bytes) limit then refusal_of (accepted bytes) else Some TooLong
+
+-- the source tells its bytes, and they are refused so
+pub record HoldsRefused (limit : ℕ) (rest : Option (List ℕ)) (refusal : Refusal) : Type 0 where
+  pub bytes : List ℕ
+  pub told : rest ≡ Some bytes
+  pub refused : refusal_in limit bytes ≡ Some refusal
+
 -- answers under which nothing was written
 abbrev pub IsSilent : Status → Type 0
 IsSilent Done = ⊥
+IsSilent Usage = Unit {0}
+IsSilent ReadFault = Unit {0}
+IsSilent (Refused r) = Unit {0}
 IsSilent WriteFault = ⊥
-IsSilent _ = Unit {0}
+IsSilent Memory = Unit {0}
 
 -- the answers where no machine came, and those of the run of a machine
 abbrev pub IsOfFile : Status → Type 0

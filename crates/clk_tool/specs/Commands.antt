@@ -1,10 +1,10 @@
 -- What the words of a command line ask for.
-use Rattle.std.specs.Prelude.{ℕ, ◌≤◌, ◌^◌, ◌==◌, ◌&&◌, ◌||◌, nat_lt, nat_le, Bool, List, String, [], ◌∷◌, length, map, slice_index, Option, Some, None, codes, decimal, if◌then◌else◌}
+use Rattle.std.specs.Prelude.{ℕ, ◌<◌, ◌≤◌, ◌^◌, ◌==◌, ◌&&◌, ◌||◌, nat_lt, nat_le, Bool, List, String, [], ◌∷◌, length, map, slice_index, Option, Some, None, codes, decimal, if◌then◌else◌}
 use Rattle.std.specs.Str.{bytes_eq}
 use Rattle.std.specs.String.{string_bytes}
 use Rattle.std.specs.Str.Parse.{digits_value}
 use Rattle.clk_tool.specs.declared.command.Command.{Command}
-use Rattle.clk_tool.specs.declared.command.Command.TheVariants.{Run, Rate}
+use Rattle.clk_tool.specs.declared.command.Command.TheVariants.{Run, Rate, Make}
 
 -- the number below 2^32 whose decimal, with no sign and no leading zero, is the word
 unfoldable pub number_of : List ℕ → Option ℕ
@@ -21,14 +21,21 @@ abbrev pub rate_of : Option ℕ → Option ℕ → Option Command
 rate_of (Some hz) (Some bits) = if nat_le 1 hz && nat_le 1 bits && nat_le bits 64 then Some (Rate hz bits) else None
 rate_of _ _ = None
 
+-- `make` of a number below 65,536
+abbrev pub make_of : Option ℕ → Option Command
+make_of (Some n) = if nat_lt n 65536 then Some (Make n) else None
+make_of None = None
+
 -- its numbers are in their ranges
 abbrev pub IsInRange : Command → Type 0
 IsInRange Run = Unit {0}
 IsInRange (Rate hz bits) = (1 ≤ hz) × (1 ≤ bits) × (bits ≤ 64)
+IsInRange (Make n) = n < 65536
 
 -- the command, or none where the words are none of the forms
 abbrev pub command_of : List (List ℕ) → Option Command
 command_of (word ∷ []) = if bytes_eq word (codes "run") then Some Run else None
+command_of (word ∷ number ∷ []) = if bytes_eq word (codes "make") then make_of (number_of number) else None
 command_of (word ∷ hz ∷ bits ∷ []) = if bytes_eq word (codes "rate") then rate_of (number_of hz) (number_of bits) else None
 command_of _ = None
 

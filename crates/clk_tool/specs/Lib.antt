@@ -1,6 +1,7 @@
 pub mod Answers
 pub mod Commands
 pub mod Ends
+pub mod Make
 pub mod Rate
 pub mod Failures
 pub mod Whole

@@ -8,9 +8,9 @@ pub record Came (limit : ℕ) (before after : Option (List ℕ)) (bytes : List �
   pub end : IsAtEnd after
   pub short : length bytes ≤ limit
 
--- some bytes came
-abbrev pub CameSome : Option (List ℕ) → Option (List ℕ) → Type 0
-CameSome before after = (bytes : List ℕ) × Consumes before after bytes
+-- some bytes came, n at most
+abbrev pub CameAtMost : ℕ → Option (List ℕ) → Option (List ℕ) → Type 0
+CameAtMost n before after = (bytes : List ℕ) × Consumes before after bytes × (length bytes ≤ n)
 
 -- one byte more than n came
 abbrev pub CameMore : ℕ → Option (List ℕ) → Option (List ℕ) → Type 0

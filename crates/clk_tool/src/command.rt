@@ -1,6 +1,6 @@
 //! What the words of a command line ask for.
 ghost use Rattle.std.specs.Prelude.{◌≡◌, IfSome};
-ghost use Rattle.clk_tool.specs.Commands.{command_asked, IsInRange, rate_of, number_of, is_plain};
+ghost use Rattle.clk_tool.specs.Commands.{command_asked, IsInRange, rate_of, make_of, number_of, is_plain};
 
 /// What the words of a command line ask for.
 #[derive(Clone, Copy, PartialEq, Eq, Debug)]
@@ -9,6 +9,8 @@ pub enum Command {
     Run,
     /// Write the scheduler clock's rate for a counter of `hz` Hz, at least 1, and `bits` bits, 1 to 64.
     Rate { hz: u32, bits: u32 },
+    /// Run the machine that is made from the number `n`, below 65,536, and write how large it and its run are.
+    Make { n: u32 },
 }
 
 /// The command of the words, the program's name left out. It is `None` where they are none of the forms.
@@ -18,6 +20,7 @@ pub(crate) fn command_in(words: &[String]) -> Option<Command>
 {
     match words {
         [word] if word.as_str() == "run" => Some(Command::Run),
+        [word, n] if word.as_str() == "make" => make_of(n.as_str()),
         [word, hz, bits] if word.as_str() == "rate" => rate_of(hz.as_str(), bits.as_str()),
         _ => None,
     }
@@ -32,6 +35,19 @@ fn rate_of(hz: &str, bits: &str) -> Option<Command>
     let bits = number_of(bits)?;
     if 1 <= hz && 1 <= bits && bits <= 64 {
         Some(Command::Rate { hz, bits })
+    } else {
+        None
+    }
+}
+
+/// The command `make` of this word.
+fn make_of(n: &str) -> Option<Command>
+    ensures command { result ≡ make_of (number_of n.now) }
+    ensures range { IfSome result IsInRange }
+{
+    let n = number_of(n)?;
+    if n < 65_536 {
+        Some(Command::Make { n })
     } else {
         None
     }

@@ -87,8 +87,8 @@ impl Model for MemSink {
 }
 
 impl MemSink {
-    /// A sink that appends to these bytes, within the list's room and at most `piece` in a call. Calls are numbered from
-    /// 1, and those whose number is in `fails` fail. `piece` is above 0.
+    /// A sink that appends to these bytes, within the list's room and at most `piece` in a call. Calls are numbered
+    /// from 1, and those whose number is in `fails` fail. `piece` is above 0.
     pub fn new(bytes: List<u8>, piece: usize, fails: List<u64>) -> MemSink
         requires { 0 < piece }
         ensures bytes { result.bytes ≡ bytes.items }

@@ -4,18 +4,19 @@ use crate::rate::rate_command;
 use crate::status::Status;
 use crate::sure::SureSink;
 use crate::tool::clock_tool;
-use clk_machine::OpenGate;
+use clk_machine::{Gate, OpenGate};
 use clk_num::List;
 use std::alloc::{AllocError, Global};
 use std::sync::Wait;
 use std::test::Fail;
 use std::thread::Threads;
 
-// Runs the program with these words over a source of no bytes, and answers its status and what it wrote.
-fn run<R: Wait + Threads + Sync>(
+// Runs the program with these words over a source of no bytes and this gate, and answers its status and what it wrote.
+pub(crate) fn run<R: Wait + Threads + Sync, G: Gate + Sync>(
     rt: &R,
     alloc: Global,
     line: &str,
+    gate: &G,
 ) -> Result<(Status, Vec<u8>), AllocError> {
     let mut words = Vec::new(alloc);
     for word in line.split_whitespace() {
@@ -23,14 +24,7 @@ fn run<R: Wait + Threads + Sync>(
     }
     let mut source = MemSource::new(List::with_room(alloc, 0)?, 64, List::with_room(alloc, 0)?);
     let mut sink = SureSink::new(List::with_room(alloc, 100)?);
-    let status = clock_tool(
-        rt,
-        alloc,
-        words.as_slice(),
-        &mut source,
-        &mut sink,
-        &OpenGate,
-    );
+    let status = clock_tool(rt, alloc, words.as_slice(), &mut source, &mut sink, gate);
     Ok((status, Vec::from_slice(alloc, sink.bytes().items())?))
 }
 
@@ -54,7 +48,7 @@ const RATES: [(&str, &str); 4] = [
 #[test]
 fn rates_are_those_of_the_worked_rows(rt: HostRuntime) -> Result<(), Fail> {
     for (line, want) in RATES {
-        let (status, written) = run(&rt, rt.alloc(), line)?;
+        let (status, written) = run(&rt, rt.alloc(), line, &OpenGate)?;
         assert_eq!(rt; status, Status::Done, "at {line}");
         assert_eq!(rt; written.as_slice(), want.as_bytes(), "at {line}");
     }
@@ -62,7 +56,7 @@ fn rates_are_those_of_the_worked_rows(rt: HostRuntime) -> Result<(), Fail> {
 }
 
 // Command lines at the edges of the forms, and their answers.
-const LINES: [(&str, Status); 16] = [
+const LINES: [(&str, Status); 21] = [
     ("rate 0 64", Status::Usage),
     ("rate 01 64", Status::Usage),
     ("rate +1 64", Status::Usage),
@@ -75,6 +69,11 @@ const LINES: [(&str, Status); 16] = [
     ("rate 5 64 64", Status::Usage),
     ("rate 5", Status::Usage),
     ("Rate 5 64", Status::Usage),
+    ("make x", Status::Usage),
+    ("make 65536", Status::Usage),
+    ("make 01", Status::Usage),
+    ("make", Status::Usage),
+    ("make 1 1", Status::Usage),
     ("run x", Status::Usage),
     ("Run", Status::Usage),
     ("--help", Status::Usage),
@@ -84,7 +83,7 @@ const LINES: [(&str, Status); 16] = [
 #[test]
 fn words_beside_the_forms_are_usage(rt: HostRuntime) -> Result<(), Fail> {
     for (line, want) in LINES {
-        let (status, written) = run(&rt, rt.alloc(), line)?;
+        let (status, written) = run(&rt, rt.alloc(), line, &OpenGate)?;
         assert_eq!(rt; status, want, "at {line}");
         assert_eq!(rt; written.is_empty(), want == Status::Usage, "at {line}");
     }

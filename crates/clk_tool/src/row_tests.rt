@@ -156,8 +156,8 @@ fn a_base_wraps_the_clock(rt: HostRuntime) -> Result<(), Fail> {
     Ok(())
 }
 
-// The rate in kHz, further lines, lines of the CPU and the script of a file, and what follows the first two lines of its
-// trace.
+// The rate in kHz, further lines, lines of the CPU and the script of a file, and what follows the first two lines of
+// its trace.
 const COUNTERS: [(&str, &str, &str, &str, &str); 3] = [
     (
         "2400000",
@@ -210,8 +210,8 @@ fn counters_are_those_of_the_file(rt: HostRuntime) -> Result<(), Fail> {
     Ok(())
 }
 
-// The version, the step, the tick and the script of a file at a limit, and the line that the program prints or the end of
-// the trace.
+// The version, the step, the tick and the script of a file at a limit, and the line that the program prints or the end
+// of the trace.
 const LIMITS: [(&str, &str, &str, &str, &str); 13] = [
     ("1", "10", "1000000", "\"pause 16777213\"", "end 16777216\n"),
     (
@@ -504,7 +504,11 @@ fn a_fault_of_the_sink_leaves_a_beginning(rt: HostRuntime) -> Result<(), Fail> {
 // Answers, their exit statuses, and the lines that the program prints.
 const ANSWERS: [(Status, u8, &str); 8] = [
     (Status::Done, 0, ""),
-    (Status::Usage, 1, "usage: clock_tool run | rate HZ BITS"),
+    (
+        Status::Usage,
+        1,
+        "usage: clock_tool run | rate HZ BITS | make N",
+    ),
     (Status::ReadFault, 2, "read fault"),
     (Status::Refused(Refusal::TooLong), 3, "refused 0"),
     (Status::Refused(Refusal::NotToml), 3, "refused 1"),

@@ -1,12 +1,13 @@
 //! The command `run` by its parts: what is read before the CPUs are brought up, and what is run and written after it.
-ghost use Rattle.std.specs.Prelude.{◌≡◌, ◌⊎◌, ◌≤◌, None, IfOk, IfErr, length};
+ghost use Rattle.std.specs.Prelude.{◌≡◌, ◌⊎◌, ◌+◌, ◌≤◌, None, IfOk, IfErr, IsErrAnd, length};
 ghost use Rattle.clk_base.specs.Causes.{Rose, Grew, GrewByPrefix};
 ghost use Rattle.clk_adjust.specs.BroughtUp.{IsBroughtUp};
 ghost use Rattle.clk_trace.specs.LawfulTrace.{IsLawful};
-ghost use Rattle.clk_trace.specs.WatchText.{MayWriteWatch};
+ghost use Rattle.clk_trace.specs.WritableWatch.{MayWriteWatch};
 ghost use Rattle.clk_threads.specs.Booting.{IsBooted, IsBootedFor};
 ghost use Rattle.clk_threads.specs.Finishing.{ShowsHistory};
-ghost use Rattle.clk_tool.specs.Answers.{CameMachine, Traced, status_of, IsCause, HoldsMachine, IsOfFile, IsOfRun};
+ghost use Rattle.clk_tool.specs.Whole.{CameAtMost};
+ghost use Rattle.clk_tool.specs.Answers.{CameMachine, Traced, status_of, IsCause, HoldsMachine, HoldsRefused, IsOfFile, IsOfRun};
 
 use crate::source::Source;
 use crate::status::{Refusal, Status};
@@ -28,11 +29,17 @@ pub fn read_run<S: Source>(alloc: Global, source: &mut S) -> Result<Booted, Stat
     ensures refused { (refusal : Refusal) → result ≡ Err (Status.Refused refusal) →
         IsCause LIMIT (S.rest source.old) (S.rest source.new) refusal }
     ensures answers { IfErr result IsOfFile }
+    ensures taken { CameAtMost (LIMIT + 1) (S.rest source.old) (S.rest source.new) }
     ensures later { S.faults source.old ≤ S.faults source.new }
 
     // Where the source holds a machine and did not fail, only want of memory is left.
     ensures complete { HoldsMachine LIMIT (S.rest source.old) → ¬ Rose (S.faults source.old) (S.faults source.new) →
         IfErr result (λ status. status ≡ Status.Memory) }
+
+    // Where what it holds is refused and it did not fail, only that refusal and want of memory are left.
+    ensures refuses { (refusal : Refusal) → HoldsRefused LIMIT (S.rest source.old) refusal →
+        ¬ Rose (S.faults source.old) (S.faults source.new) →
+        IsErrAnd result (λ status. (status ≡ Status.Refused refusal) ⊎ (status ≡ Status.Memory)) }
 {
     match machine_of(alloc, source) {
         Ok(machine) => match boot(alloc, machine) {
@@ -50,6 +57,7 @@ fn machine_of<S: Source>(alloc: Global, source: &mut S) -> Result<Machine, Statu
     ensures refused { (refusal : Refusal) → result ≡ Err (Status.Refused refusal) →
         IsCause LIMIT (S.rest source.old) (S.rest source.new) refusal }
     ensures answers { IfErr result IsOfFile }
+    ensures taken { CameAtMost (LIMIT + 1) (S.rest source.old) (S.rest source.new) }
     ensures later { S.faults source.old ≤ S.faults source.new }
 {
     let bytes = match read_whole(alloc, source) {
@@ -79,9 +87,10 @@ fn status_of(error: FileError) -> Status
     }
 }
 
-/// Runs a machine that [`read_run`] booted and whose CPUs were brought up with the tickets of its seat, each script on a
-/// thread of its own, and writes its trace: the text of a lawful trace of the machine. The answer is `Done`, `WriteFault` or
-/// `Memory`. Each script word passes the gate first. It waits on nothing else, and returns.
+/// Runs a machine that [`read_run`] booted and whose CPUs were brought up with the tickets of its seat, each script on
+/// a thread of its own, and writes its trace: the text of a lawful trace of the machine. The answer is `Done`,
+/// `WriteFault` or `Memory`. Each script word and each check of the watchdog passes the gate first. It waits on
+/// nothing, and returns.
 pub fn write_run<R: Threads + Sync, K: Sink, G: Gate + Sync>(
     rt: &R,
     alloc: Global,
@@ -114,10 +123,10 @@ pub fn write_run<R: Threads + Sync, K: Sink, G: Gate + Sync>(
     }
 }
 
-/// Runs the scripts of a machine's threads, each on a thread of its own, and answers the trace, which is lawful, with the
-/// clock words at their end, whose history the trace shows. The error is want of memory, and comes before the first word
-/// passes the gate.
-fn run_machine<R: Threads + Sync, G: Gate + Sync>(
+/// Runs the scripts of a machine's threads, each on a thread of its own, and answers the trace, which is lawful, with
+/// the clock words at their end, whose history the trace shows. The error is want of memory, and comes before the first
+/// word passes the gate.
+pub(crate) fn run_machine<R: Threads + Sync, G: Gate + Sync>(
     rt: &R,
     alloc: Global,
     booted: Booted,

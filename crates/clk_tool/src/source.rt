@@ -15,8 +15,8 @@ pub trait Source {
     ghost faults: { Self → ℕ };
 
     /// Puts the next bytes at the front of `buf` and answers how many. 0 means the end, where `buf` has room. A failed
-    /// call gives none, and comes only where the count of faults rose. A source that tells its bytes before a call tells
-    /// them after it too.
+    /// call gives none, and comes only where the count of faults rose. A source that tells its bytes before a call
+    /// tells them after it too.
     fn read(&mut self, buf: &mut [u8]) -> Result<usize, Failed>
         ensures bound { ReadsAtMost result buf.new }
         ensures bytes { ReadConsumes (rest self.old) (rest self.new) result buf.new }

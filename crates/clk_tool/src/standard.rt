@@ -1,7 +1,7 @@
 //! Readers and writers of std as sources and sinks.
 ghost use Rattle.std.specs.Prelude.{◌≡◌, None, is_err, if◌then◌else◌};
 ghost use Rattle.std.specs.Io.{ReadsAtMost};
-ghost use Rattle.std.specs.Io.KnownBytes.{ReadConsumes};
+ghost use Rattle.std.specs.Io.KnownBytes.{Keeps, ReadConsumes, WriteAppends};
 ghost use Rattle.clk_base.specs.Causes.{one_more, HasCause, Wrote};
 
 use crate::source::Source;
@@ -59,8 +59,8 @@ impl<R: Read> Source for StdSource<R> {
     }
 }
 
-/// A writer of std as a sink, which tells nothing of its bytes. Each error of the writer is a fault, and so is a write
-/// that takes nothing of a piece that is not empty.
+/// A writer of std as a sink, which tells nothing of its bytes itself, and passes on what it takes. Each error of the
+/// writer is a fault, and so is a write that takes nothing of a piece that is not empty.
 #[derive(Drop)]
 pub struct StdSink<W> {
     inner: W,
@@ -90,6 +90,7 @@ impl<W> StdSink<W> {
 impl<W: Write> StdSink<W> {
     /// Makes the writer pass on what it has buffered. It fails where the writer's `flush` does, and the count rises.
     pub fn flush(&mut self) -> Result<(), Failed>
+        ensures kept { Keeps (W.contents self.old.inner) (W.contents self.new.inner) }
         ensures cause { HasCause self.old.faults self.new.faults result }
         ensures counted { self.new.faults ≡ (if is_err result then one_more self.old.faults else self.old.faults) }
     {
@@ -111,6 +112,10 @@ impl<W: Write> Sink for StdSink<W> {
     fn write(&mut self, piece: &[u8]) -> Result<usize, Failed>
         ensures bytes { Wrote None None result piece.now }
         ensures cause { HasCause self.old.faults self.new.faults result }
+
+        // What the writer tells of its bytes grew by just those that were taken of the piece, and not where this
+        // failed.
+        ensures passed { WriteAppends (W.contents self.old.inner) (W.contents self.new.inner) result piece.now }
 
         ensures counted { self.new.faults ≡ (if is_err result then one_more self.old.faults else self.old.faults) }
     {

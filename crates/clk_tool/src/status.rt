@@ -63,7 +63,7 @@ impl fmt::Display for Status {
     fn fmt<W: fmt::Write>(&self, f: &mut fmt::Formatter<W>) -> fmt::Result {
         match self {
             Status::Done => Ok(()),
-            Status::Usage => write!(f, "usage: clock_tool run | rate HZ BITS"),
+            Status::Usage => write!(f, "usage: clock_tool run | rate HZ BITS | make N"),
             Status::ReadFault => write!(f, "read fault"),
             Status::Refused(refusal) => write!(f, "refused {refusal}"),
             Status::WriteFault => write!(f, "write fault"),

@@ -99,9 +99,9 @@ fn two_cpus_meet(rt: HostRuntime) -> Result<(), Fail> {
     Ok(())
 }
 
-// A gate of two threads with a list of passes, each a thread and its call. A pass is finished when its thread makes its next
-// one. A pass of the list waits for those before it to be finished, and any other pass for all of them. What each of the
-// first three passes of a thread was given is noted.
+// A gate of two threads with a list of passes, each a thread and its call. A pass is finished when its thread makes its
+// next one. A pass of the list waits for those before it to be finished, and any other pass for all of them. What each
+// of the first three passes of a thread was given is noted.
 #[derive(Drop)]
 struct TurnGate<'a> {
     list: &'a [(u32, u32)],

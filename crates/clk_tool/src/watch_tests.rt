@@ -79,8 +79,8 @@ const SOURCES: u64 = 8;
 
 const ATTEMPTS: u64 = 11;
 
-// The tables of the most checks with the most sources and retries. In the first check a delay of 1 ns within each attempt but
-// a source's last one makes it too long for the skew, and no such delay stands in any other check.
+// The tables of the most checks with the most sources and retries. In the first check a delay of 1 ns within each
+// attempt but a source's last one makes it too long for the skew, and no such delay stands in any other check.
 fn most_checks(alloc: Global) -> Result<String, AllocError> {
     let mut text = String::from_str(
         alloc,
@@ -99,8 +99,8 @@ fn most_checks(alloc: Global) -> Result<String, AllocError> {
     Ok(text)
 }
 
-// The boot draws 3 tickets. Each check draws 1, and 4 for each source; the first draws 4 more for each of 10 attempts at each
-// of 8 sources. So 3 + 4,096 * 33 + 320 are drawn.
+// The boot draws 3 tickets. Each check draws 1, and 4 for each source; the first draws 4 more for each of 10 attempts
+// at each of 8 sources. So 3 + 4,096 * 33 + 320 are drawn.
 const MOST_REST: &str = "source 7 good 330 330\ncurrent 0\nhistory 0 0\nend 135491\n";
 
 #[test]

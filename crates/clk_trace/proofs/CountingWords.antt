@@ -1,4 +1,5 @@
--- What the words of a script draw and step where the clock is per-CPU from the start: no event is of the stable clock then.
+-- What the words of a script draw and step where the clock is per-CPU from the start: no event is of the stable clock
+-- then.
 use Rattle.std.proofs.Common.{◌≡◌, ℕ, ◌+◌, ℤ, Bool, true, false, cond, nat_eq, List, [], ◌∷◌, ◌++◌, length, flat_map, refl, ap, ◌∙◌, arith, length-append}
 use Rattle.std.specs.Prelude.{MatchBool}
 use Rattle.std.specs.List.{sum_by}

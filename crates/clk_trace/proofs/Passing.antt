@@ -1,4 +1,5 @@
--- How visits, and checks, are written one after another: whatever is written of those to come completes the text of all.
+-- How visits, and checks, are written one after another: whatever is written of those to come completes the text of
+-- all.
 use Rattle.std.proofs.Common.{◌≡◌, ℕ, zero, suc, ◌+◌, ◌-◌, ◌%◌, ◌<◌, ◌≤◌, Bool, true, false, cond, List, [], ◌∷◌, ◌++◌, length, take, drop, get_or, drop-cons, add-one, refl, sym, ◌∙◌, ap, subst, arith}
 use Rattle.std.proofs.lemmas.List.{drop_all}
 use Rattle.clk_base.specs.Text.{lines_from}
@@ -9,7 +10,8 @@ use Rattle.clk_trace.specs.Lines.Line.{Checking, Current}
 use Rattle.clk_trace.specs.Taking.{Progress, Takes}
 use Rattle.clk_trace.specs.RightReadings.{NeverFall}
 use Rattle.clk_trace.specs.Checks.{Visit, Check, visit_by, visits_from, checks_from, checks_of}
-use Rattle.clk_trace.specs.WatchText.{IsSized, visits_after, visit_text, check_text}
+use Rattle.clk_trace.specs.WritableWatch.{IsSized, visits_after}
+use Rattle.clk_trace.specs.WriterParts.{visit_text, check_text}
 use Rattle.clk_trace.specs.declared.trace.WatchTrace.{WatchTrace}
 use Rattle.clk_trace.proofs.Taking.{takes_none, takes_more}
 

@@ -1,5 +1,5 @@
--- A chain of steps that go up, in the order of a history, is the same chain: it is already in the order of its ranks, and
--- steps of one rank show the same.
+-- A chain of steps that go up, in the order of a history, is the same chain: it is already in the order of its ranks,
+-- and steps of one rank show the same.
 use Rattle.std.proofs.Common.{◌≡◌, ℕ, suc, ◌+◌, ◌⊎◌, inl, inr, ℤ, pos, ◌+ℤ◌, ◌≤ℤ◌, ◌<ℤ◌, int_le, Bool, true, false, cond, List, [], ◌∷◌, map, get_or, refl, sym, ◌∙◌, ap, subst, arith}
 use Rattle.std.proofs.lemmas.Int.{ints}
 use Rattle.std.proofs.lemmas.Bool.Decides.{nat_tests}

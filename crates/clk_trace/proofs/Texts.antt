@@ -8,7 +8,8 @@ use Rattle.clk_warp.specs.declared.side.WarpRun.{WarpRun}
 use Rattle.clk_adjust.specs.declared.up.CpuUp.{CpuUp}
 use Rattle.clk_trace.specs.Lines.{Line, step_line, line_text, text_of}
 use Rattle.clk_trace.specs.Lines.Line.{Run, Turn, Thread, Shown, History}
-use Rattle.clk_trace.specs.TraceText.{done_line, run_lines, cpu_line, up_lines, word_lines, thread_lines, history_lines, reading_text, run_text, up_text, word_text, thread_text, history_text}
+use Rattle.clk_trace.specs.TraceText.{done_line, run_lines, cpu_line, up_lines, word_lines, thread_lines, history_lines}
+use Rattle.clk_trace.specs.WriterParts.{reading_text, run_text, up_text, word_text, thread_text, history_text}
 use Rattle.clk_trace.specs.declared.event.Event.{Event}
 use Rattle.clk_trace.specs.declared.trace.HistoryStep.{HistoryStep}
 use Rattle.clk_trace.specs.declared.trace.Trace.{Trace}

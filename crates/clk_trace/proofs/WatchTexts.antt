@@ -9,7 +9,7 @@ use Rattle.clk_trace.specs.Lines.{Line, line_text, text_of}
 use Rattle.clk_trace.specs.Lines.Line.{Demoted, Watchdog, Checking, Attempted, Judged, Stamped, Current}
 use Rattle.clk_trace.specs.Checks.{Visit, Check, listed, checks_of}
 use Rattle.clk_trace.specs.TraceText.{lift_line, demotion_lines, visit_lines, check_lines, watch_lines}
-use Rattle.clk_trace.specs.WatchText.{attempt_text, stamp_text, demotion_text, visit_text, check_text, watch_text}
+use Rattle.clk_trace.specs.WriterParts.{attempt_text, stamp_text, demotion_text, visit_text, check_text, watch_text}
 use Rattle.clk_trace.specs.declared.trace.WatchTrace.{WatchTrace}
 use Rattle.clk_trace.proofs.Texts.{text_of-both, text_of-flat, text_of-map, text_of-from}
 

@@ -1,5 +1,5 @@
 -- The checks of a watchdog, cut out of the lists that a trace keeps of them.
-use Rattle.std.specs.Prelude.{ℕ, ◌+◌, ◌-◌, List, [], ◌∷◌, ◌++◌, map, take, drop, flat_map, Option, Some, None, if◌then◌else◌}
+use Rattle.std.specs.Prelude.{ℕ, ◌-◌, List, [], ◌∷◌, ◌++◌, map, take, drop, flat_map, Option, Some, None, if◌then◌else◌}
 use Rattle.clk_base.specs.declared.block.Block.{Block}
 use Rattle.clk_machine.specs.declared.parts.WatchPart.{WatchPart}
 use Rattle.clk_machine.specs.Plan.{Plan, count_of}
@@ -34,8 +34,8 @@ first_of (x ∷ xs) = Some x
 
 -- ---- the cut
 
--- each record with the attempts that it names. One of a good TSC source that is current is followed by the next stable stamp,
--- and one by which the TSC source was lost by the demotion, while there is one
+-- each record with the attempts that it names. One of a good TSC source that is current is followed by the next stable
+-- stamp, and one by which the TSC source was lost by the demotion, while there is one
 abbrev pub visit_by : List Attempt → Option Demotion → List StableStamp → SourceRecord → Visit
 visit_by attempts demotion stamps r = record {
   made = r;

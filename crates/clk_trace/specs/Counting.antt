@@ -1,5 +1,5 @@
--- How many tickets and steps a lawful trace has, where the machine alone tells: the clock is per-CPU from the start, and
--- there is no bring-up and no watchdog.
+-- How many tickets and steps a lawful trace has, where the machine alone tells: the clock is per-CPU from the start,
+-- and there is no bring-up and no watchdog.
 use Rattle.std.specs.Prelude.{◌≡◌, ℕ, ◌+◌, ◌==◌, length, false, None, if◌then◌else◌}
 use Rattle.std.specs.List.{sum_by}
 use Rattle.clk_machine.specs.declared.script.Word.{Word}
@@ -10,7 +10,8 @@ use Rattle.clk_trace.specs.LawfulTrace.{IsLawful}
 use Rattle.clk_trace.specs.declared.trace.Trace.{Trace}
 
 -- the steps that a word of a thread on this CPU makes, on whichever clock words: a reading makes one, and a reading of
--- another CPU's clock a second one, which couples the two; a tick reads once, and the end of an idle time reads and ticks
+-- another CPU's clock a second one, which couples the two; a tick reads once, and the end of an idle time reads and
+-- ticks
 abbrev pub steps_of_word : ℕ → Word → ℕ
 steps_of_word cpu Local = 1
 steps_of_word cpu (Remote d) = if count_of d == cpu then 1 else 2

@@ -24,7 +24,8 @@ pub record Gained (before after : List (Listed HistoryStep)) (more : ℕ → Lis
 abbrev pub HasRoomFor : List (Listed HistoryStep) → (ℕ → List HistoryStep) → Type 0
 HasRoomFor lists more = (w : ℕ) (d : Listed HistoryStep) → w < length lists → length (more w) ≤ (slice_index_or lists w d).room
 
--- there is a list for each word that an event names, and for the CPU of each thread; a thread has fewer than 2^32 events
+-- there is a list for each word that an event names, and for the CPU of each thread; a thread has fewer than 2^32
+-- events
 abbrev pub NamesWordsBelow : ℕ → EventKind → Type 0
 NamesWordsBelow n (Stable raw value) = Unit {0}
 NamesWordsBelow n (Local raw tick_raw tick_gtod offset old new) = Unit {0}
@@ -48,7 +49,8 @@ pub record AreSorted (opening : ℤ) (before after : List (Listed HistoryStep)) 
   pub count : length after ≡ length before
   pub each : (w : ℕ) (d : Listed HistoryStep) → w < length before → Sorts opening (slice_index_or before w d) (slice_index_or after w d)
 
--- there is an empty list for each word, with room for its steps; the watchdog is none of the threads, and it lifts no word twice
+-- there is an empty list for each word, with room for its steps; the watchdog is none of the threads, and it lifts no
+-- word twice
 pub record MayFill (t : Trace) : Type 0 where
   pub count : length t.cpu_of.items ≡ length t.threads.items
   pub few : length t.threads.items < 2 ^ 32

@@ -1,6 +1,6 @@
--- When a trace is lawful for a machine. It speaks of printed fields, and of any number of CPUs and readers, in either start, with
--- or without a bring-up and a watchdog, and of the demotions that they call for.
-use Rattle.std.specs.Prelude.{◌≡◌, ◌+◌, ℤ, pos, ◌+ℤ◌, ◌-ℤ◌, false, [], length, map, flat_map, All, IsPermutation, is_some, Option, Some, None, if◌then◌else◌}
+-- When a trace is lawful for a machine. It speaks of printed fields and of what they fix, and of any number of CPUs and
+-- readers, in either start, with or without a bring-up and a watchdog, and of the demotions that they call for.
+use Rattle.std.specs.Prelude.{◌≡◌, ℤ, pos, ◌+ℤ◌, ◌-ℤ◌, false, [], length, map, flat_map, All, IsPermutation, is_some, Option, Some, None, if◌then◌else◌}
 use Rattle.std.specs.List.{AllZip}
 use Rattle.clk_base.specs.Walk.{Along, EachFrom}
 use Rattle.clk_num.specs.Wrapping.{wrap}
@@ -17,7 +17,7 @@ use Rattle.clk_trace.specs.RightReadings.{HasRightReadings}
 use Rattle.clk_trace.specs.Stamps.{no_pair, first_pair, last_pair, stamp_zero, stamps_of, NamesPair, pair_after, first_numbers, NamesStamps, numbers_after}
 use Rattle.clk_trace.specs.WordHistory.{steps_of, steps_on, line_of}
 use Rattle.clk_trace.specs.LegalHistory.{ReachesTarget, NamesSource, IsLegalHistory}
-use Rattle.clk_trace.specs.SeenBefore.{base_of, NeverFalls}
+use Rattle.clk_trace.specs.SeenBefore.{stood_at, NeverFalls}
 use Rattle.clk_trace.specs.Watchdog.{AreChecks, AreCalledFor}
 use Rattle.clk_trace.specs.Demoted.{HasDemotions}
 use Rattle.clk_demote.specs.declared.events.Demotion.{Demotion}
@@ -46,8 +46,8 @@ pub record HasOpening (m : Plan) (t : Trace) : Type 0 where
       t.sched_offset ≡ (if m.stable then wrap (((last_pair no_pair t.boots.items).gtod +ℤ t.gtod_offset) -ℤ (last_pair no_pair t.boots.items).raw) else pos 0)
   pub start_word : t.start_word ≡ opening_at (wrap ((last_pair no_pair t.boots.items).gtod +ℤ t.gtod_offset)) t.boot_demotion
 
--- each CPU's clock word has a legal history from the opening, and each per-CPU reading names stamps of its CPU: an owner its
--- last one, and so the last before the reading, a reader none older than the reading before
+-- each CPU's clock word has a legal history from the opening, and each per-CPU reading names stamps of its CPU: an
+-- owner its last one, and so the last before the reading, a reader none older than the reading before
 pub record HasLegalHistories (m : Plan) (t : Trace) : Type 0 where
   pub count : length t.histories.items ≡ cpu_count m
   pub words : EachFrom (λ w lines. IsLegalHistory t.start_word (steps_on w (steps_of t)) lines.items) 0 t.histories.items
@@ -80,7 +80,7 @@ pub record IsLawful (m : Plan) (t : Trace) : Type 0 where
   pub readings : HasRightReadings m t
   pub histories : HasLegalHistories m t
   pub once : HoldsEachStepOnce t
-  pub seen : AllZip (λ cpu es. NeverFalls t.start_word (base_of t) cpu [] es.items) t.cpu_of.items t.threads.items
+  pub seen : AllZip (λ cpu es. NeverFalls t.start_word (stood_at t) cpu [] es.items) t.cpu_of.items t.threads.items
   pub modes : HasModes t
   pub bring_up : IsBroughtUp m None t.ups
   pub watchdog : HasWatchdog m t

@@ -40,7 +40,8 @@ NamesSource opening steps (Lift value) = Unit {0}
 
 -- ---- the lines of a word
 
--- they show its steps in order, and those are a chain from its opening; of a line's place in its thread nothing is shown
+-- they show its steps in order, and those are a chain from its opening; of a line's place in its thread nothing is
+-- shown
 pub record IsLegalHistory (opening : ℤ) (steps : List Placed) (lines : List HistoryStep) : Type 0 where
   pub ordered : List HistoryStep
   pub history : IsHistoryOf opening steps ordered

@@ -1,7 +1,8 @@
 pub mod Checks
 pub mod Lines
 pub mod TraceText
-pub mod WatchText
+pub mod WritableWatch
+pub mod WriterParts
 pub mod Threads
 pub mod Couples
 pub mod Updates

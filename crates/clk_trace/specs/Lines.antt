@@ -29,8 +29,8 @@ pub data Line : Type 0 where
   Boot : ℕ → ℤ → RawReading → Line
   -- how the clock starts, and the offsets of the stable clock and of monotonic time
   Start : Mode → ℤ → ℤ → Line
-  -- a CPU and the number of a warp run of its bring-up; a reading of the run; the run's falls, their greatest, how many changed
-  -- sides and the greatest of either side, and the verdict
+  -- a CPU and the number of a warp run of its bring-up; a reading of the run; the run's falls, their greatest, how many
+  -- changed sides and the greatest of either side, and the verdict
   Run : ℕ → ℕ → Line
   Turn : WarpReading → Line
   Done : ℕ → ℕ → ℕ → ℕ → ℕ → Verdict → Line
@@ -43,8 +43,9 @@ pub data Line : Type 0 where
   -- a thread and its CPU; one of its events
   Thread : ℕ → ℕ → Line
   Shown : Event → Line
-  -- the watchdog's thread; a check with its CPU and the first ticket of its pause; an attempt at a source, and what the visit
-  -- found; a stable stamp; a lift of a clock word, which it had before and after; and the place of the current source
+  -- the watchdog's thread; a check with its CPU and the first ticket of its pause; an attempt at a source, and what the
+  -- visit found; a stable stamp; a lift of a clock word, which it had before and after; and the place of the current
+  -- source
   Watchdog : ℕ → Line
   Checking : ℕ → ℕ → ℕ → Line
   Attempted : ℕ → Attempt → Line

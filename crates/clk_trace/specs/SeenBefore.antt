@@ -38,19 +38,24 @@ abbrev pub values_on : ℕ → List Seen → List ℤ
 values_on w seen = flat_map (λ v. if v.word == w then v.value ∷ [] else []) seen
 
 -- where the words stood when per-CPU readings began: as the watchdog's demotion lifted them, or else at their opening
-abbrev pub base_of : Trace → ℕ → ℤ
-base_of t w = lifted_from t.start_word (lifts_by t.watch) w
+abbrev pub stood_at : Trace → ℕ → ℤ
+stood_at t w = lifted_from t.start_word (lifts_by t.watch) w
 
 -- the highest value of the word that was seen, or where it stood at first; nothing lies below that
 abbrev pub seen_of : ℤ → (ℕ → ℤ) → ℕ → List Seen → ℤ
 seen_of opening base w seen = highest opening (base w) (values_on w seen)
 
+-- a value that was found of a word is below neither the word's opening nor what was seen of it
+pub record IsFoundAbove (opening seen value : ℤ) : Type 0 where
+  pub over_opening : IsNotBelow value opening
+  pub over_seen : IsNotBelow value seen
+
 -- what an event found is not below what was seen of that word before
 abbrev pub IsAboveSeen : ℤ → (ℕ → ℤ) → ℕ → List Seen → EventKind → Type 0
 IsAboveSeen opening base cpu seen (Stable raw value) = Unit {0}
-IsAboveSeen opening base cpu seen (Local raw tick_raw tick_gtod offset old new) = IsNotBelow old (seen_of opening base cpu seen)
+IsAboveSeen opening base cpu seen (Local raw tick_raw tick_gtod offset old new) = IsFoundAbove opening (seen_of opening base cpu seen) old
 IsAboveSeen opening base cpu seen (Couple asked own other word old new) =
-    IsNotBelow own (seen_of opening base cpu seen) × IsNotBelow other (seen_of opening base asked seen)
+    IsFoundAbove opening (seen_of opening base cpu seen) own × IsFoundAbove opening (seen_of opening base asked seen) other
 IsAboveSeen opening base cpu seen (Stamp gtod_ticket gtod raw) = Unit {0}
 IsAboveSeen opening base cpu seen Nothing = Unit {0}
 IsAboveSeen opening base cpu seen (Update p) = Unit {0}

@@ -1,5 +1,5 @@
--- The steps of a word in the order in which they were made are a chain, and their lines in the order of a history are that
--- chain again.
+-- The steps of a word in the order in which they were made are a chain, and their lines in the order of a history are
+-- that chain again.
 use Rattle.std.specs.Prelude.{◌≡◌, ℤ, List, map, ◌<ℤ◌, ◌⊎◌, All, IsPermutation, IsSorted}
 use Rattle.clk_base.specs.Chains.{IsChainBy}
 use Rattle.clk_num.specs.Wrapping.{IsValue, above}

@@ -90,8 +90,8 @@ abbrev pub least_from : ℤ → ℕ → ℕ → List ℤ → Option ℕ
 least_from x low n [] = None
 least_from x low n (y ∷ ys) = if nat_le low n && int_eq y x then Some n else least_from x low (n + 1) ys
 
--- the least numbers that a reading can name after one with these: neither goes back, and the GTOD is not older than the raw
--- clock
+-- the least numbers that a reading can name after one with these: neither goes back, and the GTOD is not older than the
+-- raw clock
 abbrev pub numbers_of : List Pair → Numbers → ℤ → ℤ → Option Numbers
 numbers_of stamps last tick_raw tick_gtod =
     option_and_then

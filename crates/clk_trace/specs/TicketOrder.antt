@@ -42,7 +42,8 @@ abbrev pub first_blocks : Trace → List Block
 first_blocks t =
     boot_blocks t.epoch_ticket t.boots.items ++ up_blocks t.ups.cpus.items ++ flat_map demotion_blocks (listed t.boot_demotion)
 
--- all blocks are disjoint and cover the numbers below n; those before the scripts rise and come first; each list rises by itself
+-- all blocks are disjoint and cover the numbers below n; those before the scripts rise and come first; each list rises
+-- by itself
 pub record IsTicketOrder (first : List Block) (lists : List (List Block)) (n : ℕ) : Type 0 where
   pub covers : Covers (first ++ flat_map (λ bs. bs) lists) n
   pub first_rise : RisesFrom 0 first

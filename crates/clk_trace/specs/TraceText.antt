@@ -1,14 +1,12 @@
 -- The text of a trace, line by line.
 use Rattle.std.specs.Prelude.{ℕ, ◌+◌, ◌==◌, ◌%◌, Bool, ℤ, List, [], ◌∷◌, ◌++◌, map, flat_map, length, slice_index, if◌then◌else◌}
-use Rattle.clk_base.specs.Text.{lines_from}
 use Rattle.clk_base.specs.Walk.{flat_from}
 use Rattle.clk_num.specs.Listed.{Listed}
 use Rattle.clk_warp.specs.Verdicts.{verdict_of}
-use Rattle.clk_warp.specs.declared.side.WarpReading.{WarpReading}
 use Rattle.clk_warp.specs.declared.side.WarpRun.{WarpRun}
 use Rattle.clk_words.specs.declared.step.Step.{Step}
 use Rattle.clk_adjust.specs.declared.up.CpuUp.{CpuUp}
-use Rattle.clk_trace.specs.Lines.{Line, step_line, line_text, text_of}
+use Rattle.clk_trace.specs.Lines.{Line, step_line, text_of}
 use Rattle.clk_trace.specs.Lines.Line.{Head, Epoch, Boot, Start, Run, Turn, Done, Cpu, Demoted, Word, Thread, Shown, Watchdog, Checking, Attempted, Judged, Stamped, Lifted, Current, History, End}
 use Rattle.clk_trace.specs.Checks.{Visit, Check, listed, checks_of}
 use Rattle.clk_trace.specs.declared.event.Event.{Event}
@@ -84,36 +82,3 @@ lines_of t =
 
 abbrev pub text : Trace → List ℕ
 text t = text_of (lines_of t)
-
--- ---- the parts of a text, as the writer goes through them
-
-abbrev pub event_text : ℕ → Event → List ℕ
-event_text n e = line_text (Shown e)
-
-abbrev pub boot_text : ℕ → StableStamp → List ℕ
-boot_text n s = line_text (boot_line s)
-
-abbrev pub step_text : ℕ → HistoryStep → List ℕ
-step_text n s = line_text (step_line s)
-
-abbrev pub reading_text : ℕ → WarpReading → List ℕ
-reading_text n r = line_text (Turn r)
-
-abbrev pub run_text : ℕ → ℕ → ℕ → WarpRun → List ℕ
-run_text cpu count n run =
-    line_text (Run cpu (n + 1)) ++ lines_from reading_text 0 run.readings.items ++ line_text (done_line (n + 1 == count) run)
-
-abbrev pub up_text : ℕ → CpuUp → List ℕ
-up_text n up = lines_from (run_text up.cpu (length up.runs.items)) 0 up.runs.items ++ line_text (cpu_line up)
-
-abbrev pub boot_demotion_text : ℕ → Demotion → List ℕ
-boot_demotion_text n d = line_text (Demoted d)
-
-abbrev pub word_text : {A : Type 0} → ℤ → ℕ → A → List ℕ
-word_text opening w _ = line_text (Word w opening)
-
-abbrev pub thread_text : List ℕ → ℕ → Listed Event → List ℕ
-thread_text cpus n events = line_text (Thread n (slice_index cpus n)) ++ lines_from event_text 0 events.items
-
-abbrev pub history_text : ℕ → Listed HistoryStep → List ℕ
-history_text w steps = line_text (History w (length steps.items)) ++ lines_from step_text 0 steps.items

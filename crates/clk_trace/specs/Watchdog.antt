@@ -22,9 +22,9 @@ NamesAll n (r ∷ rs) m = (r.first ≡ n) × NamesAll (n + r.count) rs m
 
 -- ---- all of them
 
--- there are as many checks as the file asks for. Each visits the sources in order; all records stand in a check, and all
--- attempts in a record; each record is what its attempts call for by the fold of those before it, and after each check the
--- current source is that of the fold so far. At first the TSC source is lost where a bring-up failed
+-- there are as many checks as the file asks for. Each visits the sources in order; all records stand in a check, and
+-- all attempts in a record; each record is what its attempts call for by the fold of those before it, and after each
+-- check the current source is that of the fold so far. At first the TSC source is lost where a bring-up failed
 pub record AreChecks (m : Plan) (lost : Bool) (w : WatchTrace) : Type 0 where
   pub thread : w.thread ≡ length (threads_of m)
   pub pauses : length w.pauses.items ≡ checks_asked m.watchdog
@@ -41,8 +41,9 @@ pub record AreChecks (m : Plan) (lost : Bool) (w : WatchTrace) : Type 0 where
 
 -- ---- stable stamps and the demotion
 
--- where the clock is stable a stamp stands exactly after each record of a good TSC source that is current, and the demotion
--- exactly after the one by which the TSC source was lost; there are no others. No TSC source is good or lost after that
+-- where the clock is stable a stamp stands exactly after each record of a good TSC source that is current, and the
+-- demotion exactly after the one by which the TSC source was lost; there are no others. No TSC source is good or lost
+-- after that
 pub record AreCalledFor (stable : Bool) (w : WatchTrace) : Type 0 where
   pub stamps : All (λ v. is_some v.stamp ≡ (stable && v.made.tsc_current)) (visits_of w)
   pub demotions : All (λ v. is_some v.demotion ≡ (stable && v.made.tsc_demoted)) (visits_of w)

@@ -80,8 +80,8 @@ line_of p = record { thread = p.step.by; call = p.step.call; part = p.part; old 
 abbrev pub is_flat : HistoryStep → Bool
 is_flat s = int_eq s.old s.new
 
--- by how far the word is above its opening afterwards, then rising steps before flat ones, then by thread, call and place;
--- no two steps agree in these, and with the word before at the end, lines that are equal in order are equal
+-- by how far the word is above its opening afterwards, then rising steps before flat ones, then by thread, call and
+-- place; no two steps agree in these, and with the word before at the end, lines that are equal in order are equal
 abbrev pub history_cmp : ℤ → HistoryStep → HistoryStep → Ordering
 history_cmp opening a b =
     ordering_then

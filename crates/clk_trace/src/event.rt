@@ -28,8 +28,8 @@ pub enum EventKind {
         old: i64,
         new: i64,
     },
-    /// A per-CPU reading of another CPU's clock: the CPU asked, what was loaded of the own clock word and of that CPU's, the
-    /// CPU of the word that was then raised, and that word before and after. The word after is the reading.
+    /// A per-CPU reading of another CPU's clock: the CPU asked, what was loaded of the own clock word and of that
+    /// CPU's, the CPU of the word that was then raised, and that word before and after. The word after is the reading.
     Couple {
         cpu: u32,
         own: i64,

@@ -9,11 +9,11 @@ use crate::trace::{HistoryStep, Trace, WatchTrace};
 use clk_num::{List, above};
 use clk_words::Step;
 
-/// Fills the history of each clock word, which must be empty and have room, with the steps that the events of all threads
-/// made on it and the lift by which the watchdog opened it: by how far the word was then above its opening, rising steps
-/// before flat ones, then by thread, call and place. A lift stands under the watchdog's thread, which must be none of the
-/// others, with the number of its check and place 0; no word is lifted twice. Nothing else is changed. It takes no memory:
-/// one pass over the events and the lifts, and a sort in place.
+/// Fills the history of each clock word, which must be empty and have room, with the steps that the events of all
+/// threads made on it and the lift by which the watchdog opened it: by how far the word was then above its opening,
+/// rising steps before flat ones, then by thread, call and place. A lift stands under the watchdog's thread, which must
+/// be none of the others, with the number of its check and place 0; no word is lifted twice. Nothing else is changed.
+/// It takes no memory: one pass over the events and the lifts, and a sort in place.
 pub fn histories(trace: &mut Trace)
     requires { MayFill trace.old }
     ensures { FillsHistories trace.old trace.new }

@@ -3,8 +3,8 @@
 //! A [`Trace`] holds every reading, stamp and pause of a run with its ticket, and the history of each clock word.
 //! `specs/` says when a trace is lawful for a machine and what its text is, line by line; the text fixes all that
 //! lawfulness reads. [`histories`] finds the history of each word from the events of all threads, and [`write_trace`]
-//! writes exactly the trace's text into any [`Sink`]; neither takes memory. Any other text of lines goes to a sink by an
-//! [`Out`], as that of a trace does.
+//! writes exactly the trace's text into any [`Sink`]; neither takes memory. Any other text of lines goes to a sink by
+//! an [`Out`], as that of a trace does.
 #![tactic(auto)]
 
 mod counting;

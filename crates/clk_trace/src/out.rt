@@ -131,8 +131,9 @@ impl Out {
         }
     }
 
-    /// Appends a line of at most 256 bytes: its words, parted by one space each, and a line feed. The sink takes a beginning
-    /// of what was appended so far, and the rest waits. Once a write failed, now or before, the text goes nowhere.
+    /// Appends a line of at most 256 bytes: its words, parted by one space each, and a line feed. The sink takes a
+    /// beginning of what was appended so far, and the rest waits. Once a write failed, now or before, the text goes
+    /// nowhere.
     #[inline(always)]
     pub fn line<K: Sink>(&mut self, sink: &mut K, first: &Part, rest: &[Part])
         requires { part_room first.now + sum_by part_room rest.now < 256 }

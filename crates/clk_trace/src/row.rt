@@ -11,8 +11,8 @@ use std::marker::Model;
 
 const SIZE: usize = 256;
 
-/// The end of a line. Digits come last first, so a line that is built from its end has each word where it stays: nothing is
-/// moved, and nothing is counted before it is written.
+/// The end of a line. Digits come last first, so a line that is built from its end has each word where it stays:
+/// nothing is moved, and nothing is counted before it is written.
 ///
 /// A contract sees it as its bytes.
 #[derive(Drop)]

@@ -40,8 +40,8 @@ pub struct WatchTrace {
     pub currents: List<u32>,
 }
 
-/// A whole run. Tickets are counted from 0, times are in ns. Clock values begin at the machine's base and wrap at 64 bits:
-/// the sign of a difference tells which of two is later.
+/// A whole run. Tickets are counted from 0, times are in ns. Clock values begin at the machine's base and wrap at 64
+/// bits: the sign of a difference tells which of two is later.
 #[derive(Drop)]
 pub struct Trace {
     /// The ticket and the counter value, in cycles, of record 0.

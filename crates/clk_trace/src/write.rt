@@ -7,9 +7,10 @@ ghost use Rattle.clk_trace.specs.Taking.{Takes, progress_of};
 ghost use Rattle.clk_trace.specs.Parts.{part_text, part_room};
 ghost use Rattle.clk_warp.specs.Verdicts.{adjustment};
 ghost use Rattle.clk_trace.specs.Lines.{kind_words, line_text, mode_name, side_name as name_of_side, outcome_name as name_of_outcome};
-ghost use Rattle.clk_trace.specs.TraceText.{text, event_text, boot_text, up_text, run_text, reading_text, cpu_line, done_line, boot_demotion_text, word_text, thread_text, step_text, history_text};
+ghost use Rattle.clk_trace.specs.TraceText.{text, cpu_line, done_line};
+ghost use Rattle.clk_trace.specs.WriterParts.{event_text, boot_text, up_text, run_text, reading_text, boot_demotion_text, word_text, thread_text, step_text, history_text};
 ghost use Rattle.clk_trace.specs.Checks.{listed};
-ghost use Rattle.clk_trace.specs.WatchText.{MayWriteWatch};
+ghost use Rattle.clk_trace.specs.WritableWatch.{MayWriteWatch};
 
 use crate::event::{Event, EventKind};
 use crate::out::Part::{Name, Negated, Signed, Unsigned};
@@ -24,9 +25,10 @@ use clk_num::List;
 use clk_warp::{Side, WarpReading, WarpRun};
 use clk_words::Mode;
 
-/// Writes the trace's text into a sink, and takes no memory. Each thread must have its CPU. Where there is a watchdog, there
-/// must be a history, so that a check has its CPU, and the lists of its checks must be as long as each other, with ends that
-/// do not fall and attempts that are there. The error is a write that failed; then the sink took a beginning of the text.
+/// Writes the trace's text into a sink, and takes no memory. Each thread must have its CPU. Where there is a watchdog,
+/// there must be a history, so that a check has its CPU, and the lists of its checks must be as long as each other,
+/// with ends that do not fall and attempts that are there. The error is a write that failed; then the sink took a
+/// beginning of the text.
 pub fn write_trace<K: Sink>(sink: &mut K, trace: &Trace) -> Result<(), WriteFault>
     requires cpus { length trace.now.cpu_of.items ≡ length trace.now.threads.items }
     requires watch { MayWriteWatch (length trace.now.histories.items) trace.now.watch }

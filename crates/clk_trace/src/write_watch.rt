@@ -6,7 +6,8 @@ ghost use Rattle.clk_trace.specs.Taking.{Takes, progress_of};
 ghost use Rattle.clk_trace.specs.Lines.{line_text};
 ghost use Rattle.clk_trace.specs.Lines.Line.{Demoted, Checking, Judged};
 ghost use Rattle.clk_trace.specs.Checks.{listed, first_of, visit_by, checks_of};
-ghost use Rattle.clk_trace.specs.WatchText.{IsSized, MayWriteWatch, visits_after, attempt_text, stamp_text, lift_text, demotion_text, visit_text, check_text, watch_text};
+ghost use Rattle.clk_trace.specs.WritableWatch.{IsSized, MayWriteWatch, visits_after};
+ghost use Rattle.clk_trace.specs.WriterParts.{attempt_text, stamp_text, lift_text, demotion_text, visit_text, check_text, watch_text};
 
 use crate::out::Out;
 use crate::out::Part::{Name, Signed, Unsigned};
@@ -69,7 +70,8 @@ fn write_checking<K: Sink>(out: &mut Out, sink: &mut K, check: usize, cpu: usize
     );
 }
 
-/// The visits of these records. So many stable stamps stand before them, and the answer tells how many stand before the rest.
+/// The visits of these records. So many stable stamps stand before them, and the answer tells how many stand before the
+/// rest.
 fn write_visits<K: Sink>(
     out: &mut Out,
     sink: &mut K,

@@ -76,6 +76,7 @@ kept_read s room after c d r kept reads less counts =
       cpu = kept.cpu;
       near = kept.near;
       none_before = inr (still_here s.time s.target reads.here);
+      few = omega (arith, kept.few, e);
       room_left = omega (arith, kept.room_left);
       tickets_left = less_left s.time kept.tickets_left;
       shows = All-push (ShowsCounter s) s.readings r kept.shows reads.shows;

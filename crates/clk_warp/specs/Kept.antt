@@ -68,8 +68,8 @@ pub record Kept (first : Run) (s : Locked) : Type 0 where
   pub fits : next s < 2 ^ 64
   pub order : serving s ≤ next s
   pub legal : AreSections first all
-  -- while no seat has it, the slot holds the first state after all sections, as many as were served, or one more between
-  -- the return of the state and the raise of the ticket that is served
+  -- while no seat has it, the slot holds the first state after all sections, as many as were served, or one more
+  -- between the return of the state and the raise of the ticket that is served
   pub home : NoneIs 3 s.views → get_elem? s.homes 0 ≡ some (some (Some (after first all)))
   pub count : NoneIs 4 s.views → length all ≡ serving s
   pub made : sum_by (λ v. length v.own) s.views ≡ length all

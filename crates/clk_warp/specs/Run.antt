@@ -15,8 +15,8 @@ use Rattle.clk_warp.specs.declared.section.Section.TheVariants.{Read, SourceArri
 use Rattle.clk_warp.specs.Sides.{is_same}
 use Rattle.clk_warp.specs.Falls.{Limits, is_started, is_ended}
 
--- the machine, the ticket table, the CPU that is brought up and what it adds to its counter, whether it is here, the time
--- seat, which the source brings, the readings in lock order, and how many sections were made
+-- the machine, the ticket table, the CPU that is brought up and what it adds to its counter, whether it is here, the
+-- time seat, which the source brings, the readings in lock order, and how many sections were made
 pub record Run : Type 0 where
   pub machine : Plan
   pub tickets : TableId

@@ -28,12 +28,13 @@ run_of s = record {
   sections = s.sections;
 }
 
--- tickets and room are left for all readings that the run may still make, no reading stands before both sides arrived, each
--- shows the counter at its ticket, and the counters are those of the readings
+-- tickets and room are left for all readings that the run may still make, no reading stands before both sides arrived,
+-- each is a section of its own and shows the counter at its ticket, and the counters are those of the readings
 pub record IsKept (s : Run) (room : ℕ) (counts : WarpCounts) : Type 0 where
   pub cpu : (1 ≤ s.cpu) × (s.cpu < cpu_count s.machine)
   pub near : IsNear 48 s.adjust
   pub none_before : (s.readings ≡ []) ⊎ (both_here s ≡ true)
+  pub few : length s.readings ≤ s.sections
   pub room_left : most_readings s.machine ≤ room + length s.readings
   pub tickets_left : IfSome s.time (λ t. (t.table ≡ s.tickets) × (most_readings s.machine ≤ t.left + length s.readings))
   pub shows : All (ShowsCounter s) s.readings

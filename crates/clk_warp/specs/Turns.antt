@@ -12,8 +12,8 @@ pub record Lock : Type 0 where
   pub table : TableId
   pub first : Run
 
--- a seat: its lock, its side, whether it is inside, its last lock ticket, the sections that it has found or made, and those
--- that it made
+-- a seat: its lock, its side, whether it is inside, its last lock ticket, the sections that it has found or made, and
+-- those that it made
 pub record Turn : Type 0 where
   pub lock : Lock
   pub side : Side
@@ -26,8 +26,8 @@ pub record Turn : Type 0 where
 abbrev pub fresh : Lock → Side → Turn
 fresh lock side = record { lock = lock; side = side; inside = false; ticket = None; known = []; own = [] }
 
--- it is inside, and has found the first state, changed by as many sections as its lock ticket. Those that it had found or
--- made are the first of these, and those of its side are its own
+-- it is inside, and has found the first state, changed by as many sections as its lock ticket. Those that it had found
+-- or made are the first of these, and those of its side are its own
 pub record Enters (before : Turn) (state : Run) (now : Turn) : Type 0 where
   pub lock_is : now.lock ≡ before.lock
   pub side_is : now.side ≡ before.side

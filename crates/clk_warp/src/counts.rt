@@ -36,8 +36,8 @@ impl WarpCounts {
     ghost use Rattle.clk_warp.specs.Counts.{progress_of, limits_of, AreCountsOf, AddsReading};
     ghost use Rattle.clk_warp.specs.Keeping.{WithProgress, WithFall, Compares};
 
-    /// The counters of a run in which no reading is made. A side ends on an eighth turn where its counter went on by more
-    /// than `span` cycles since its start, or where it made more than `turns` turns, at most 4,096.
+    /// The counters of a run in which no reading is made. A side ends on an eighth turn where its counter went on by
+    /// more than `span` cycles since its start, or where it made more than `turns` turns, at most 4,096.
     pub fn new(span: u64, turns: u32) -> WarpCounts
         requires { turns ≤ 4096 }
         ensures { AreCountsOf (record { span = span; turns = turns }) [] result }
@@ -93,7 +93,8 @@ impl WarpCounts {
         self.compare(side, progress.ended, tsc);
     }
 
-    // Counts a turn where it is a fall, and takes it as the turn before the next. A reading that ends a loop counts none.
+    // Counts a turn where it is a fall, and takes it as the turn before the next. A reading that ends a loop counts
+    // none.
     fn compare(&mut self, side: Side, ended: bool, tsc: u64)
         requires { self.old.nr < self.old.source.turn + self.old.target.turn }
         ensures { Compares side ended tsc self.old self.new }

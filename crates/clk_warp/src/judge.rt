@@ -5,9 +5,9 @@ ghost use Rattle.clk_warp.specs.Verdicts.{verdict_of};
 use crate::outcome::Verdict;
 use crate::side::WarpRun;
 
-/// The verdict on a run with so many runs left, this one among them. A run without a fall passed. Else it failed where it
-/// was the last one or falls changed sides, and else the target adds what it saw itself, or goes back by the greatest fall
-/// where it saw none.
+/// The verdict on a run with so many runs left, this one among them. A run without a fall passed. Else it failed where
+/// it was the last one or falls changed sides, and else the target adds what it saw itself, or goes back by the
+/// greatest fall where it saw none.
 pub fn verdict(run: &WarpRun, runs_left: u32) -> Verdict
     requires left { 0 < runs_left }
     requires max { run.now.max < 2 ^ 63 }

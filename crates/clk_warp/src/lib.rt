@@ -7,11 +7,11 @@
 //! - `specs/Falls.antt` says which readings of a run are falls and where a side ends, over the whole list of readings.
 //!   The program keeps counters turn by turn, [`WarpCounts`], and each [`WarpCounts::add`] is proved to keep them those
 //!   of the list. [`falls_are_counted`] carries what the definitions mean.
-//! - [`WarpState`] is what stands under the lock: the readings, their counts, and the seat that draws their tickets. One
-//!   section under the lock is one reading, the arrival of a side, or nothing: `specs/Run.antt` says what each makes of
-//!   the state.
-//! - [`TurnLock`] is a ticket lock of two words and one slot. What a side finds under it is the first state, changed by as
-//!   many sections as its lock ticket, and all sections of its side are its own: `specs/Turns.antt`.
+//! - [`WarpState`] is what stands under the lock: the readings, their counts, and the seat that draws their tickets.
+//!   One section under the lock is one reading, the arrival of a side, or nothing: `specs/Run.antt` says what each
+//!   makes of the state.
+//! - [`TurnLock`] is a ticket lock of two words and one slot. What a side finds under it is the first state, changed by
+//!   as many sections as its lock ticket, and all sections of its side are its own: `specs/Turns.antt`.
 //! - [`warp_worker`] runs one side, and [`run_pair`] both, each on a thread of its own.
 //! - [`verdict`] says what comes after a run: it passed, or the target's counter is adjusted and both run again, or the
 //!   counters cannot be trusted.

@@ -30,8 +30,8 @@ const STATE: usize = 0;
 /// How often a side looks whether it is served before it lets another thread run: two sides on one core have to go on.
 const LOOKS: u32 = 100;
 
-/// A ticket lock over the state of a warp run, which two sides enter in turn. It serves them in the order in which they drew
-/// their lock tickets, as the spinlock of Linux's `check_tsc_warp` does.
+/// A ticket lock over the state of a warp run, which two sides enter in turn. It serves them in the order in which they
+/// drew their lock tickets, as the spinlock of Linux's `check_tsc_warp` does.
 ///
 /// A contract sees which lock it is, and the first state that stood in it.
 #[derive(Drop)]
@@ -51,8 +51,8 @@ impl Model for TurnLock {
 }
 
 impl TurnLock {
-    /// A lock with this state in it, which was made for the machine and has no sections, and the seats of the source and of
-    /// the target. The error is want of memory, and hands the state back.
+    /// A lock with this state in it, which was made for the machine and has no sections, and the seats of the source
+    /// and of the target. So it has no reading either. The error is want of memory, and hands the state back.
     pub fn new(
         alloc: Global,
         _machine: &Machine,
@@ -61,6 +61,7 @@ impl TurnLock {
         requires machine { state.machine ≡ _machine.now }
         requires sections { state.sections ≡ 0 }
         ensures first { IfOk result (λ made. made.0.first ≡ state) }
+        ensures empty { IfOk result (λ made. made.0.first.readings ≡ []) }
         ensures source { IfOk result (λ made. made.1 ≡ fresh made.0 Source) }
         ensures target { IfOk result (λ made. made.2 ≡ fresh made.0 Target) }
         ensures back { IfErr result (λ e. e.1 ≡ state) }
@@ -78,8 +79,8 @@ impl TurnLock {
         }
     }
 
-    /// Draws the next lock ticket, waits until it is served, and takes the state. The seat is outside. Where all lock tickets
-    /// are drawn, 2^64 - 1 of them, it does not return.
+    /// Draws the next lock ticket, waits until it is served, and takes the state. The seat is outside. Where all lock
+    /// tickets are drawn, 2^64 - 1 of them, it does not return.
     pub fn enter<R: Wait>(&self, rt: &R, seat: &mut TurnSeat) -> WarpState
         requires own { seat.old.lock ≡ self.now }
         requires outside { seat.old.inside ≡ false }
@@ -137,8 +138,8 @@ impl TurnLock {
         unreachable!()
     }
 
-    /// Gives the state back, changed by one section since `enter` gave it, and hands the lock on. The seat is inside, and
-    /// does not make a section of the other side. It takes no memory and does not wait.
+    /// Gives the state back, changed by one section since `enter` gave it, and hands the lock on. The seat is inside,
+    /// and does not make a section of the other side. It takes no memory and does not wait.
     pub fn leave(&self, seat: &mut TurnSeat, state: WarpState)
         requires own { seat.old.lock ≡ self.now }
         requires inside { seat.old.inside ≡ true }
@@ -155,7 +156,8 @@ impl TurnLock {
         seat.inside = false;
     }
 
-    /// The state at the end, for the two seats of the lock, neither of which is inside. It takes no memory and does not wait.
+    /// The state at the end, for the two seats of the lock, neither of which is inside. It takes no memory and does not
+    /// wait.
     pub fn close(self, mut a: TurnSeat, b: TurnSeat) -> WarpState
         requires first { a.lock ≡ self }
         requires second { b.lock ≡ self }

@@ -20,12 +20,12 @@ use std::mem::replace;
 use std::sync::Wait;
 use std::thread::{Threads, join};
 
-/// Runs both sides of a warp run of CPU `cpu`, 1 or more, each on a thread of its own, and answers the finished run. The
-/// target adds `adjust` cycles, within 2^48 of 0, to its counter. The seat has a ticket for each reading that the run may
-/// make, `2 * (turns + 10)`, and draws exactly those of the run's readings, in lock order.
+/// Runs both sides of a warp run of CPU `cpu`, 1 or more, each on a thread of its own, and answers the finished run.
+/// The target adds `adjust` cycles, within 2^48 of 0, to its counter. The seat has a ticket for each reading that the
+/// run may make, `2 * (turns + 10)`, and draws exactly those of the run's readings, in lock order.
 ///
-/// It waits for the lock and for both sides. All memory is taken before the first reading; the error is want of memory, and
-/// leaves the seat as it was. After `check_tsc_sync_source` and `check_tsc_sync_target` of Linux 6.1's
+/// It waits for the lock and for both sides. All memory is taken before the first reading; the error is want of memory,
+/// and leaves the seat as it was. After `check_tsc_sync_source` and `check_tsc_sync_target` of Linux 6.1's
 /// `arch/x86/kernel/tsc_sync.c`.
 pub fn run_pair<R: Wait + Threads + Sync, G: Gate + Sync>(
     rt: &R,

@@ -10,8 +10,8 @@ use std::snapshot::Snapshot;
 
 /// A side's place at a [`crate::TurnLock`].
 ///
-/// A contract sees it as a `Turn`, `specs/Turns.antt`: its lock, its side, whether it is inside, its last lock ticket, the
-/// sections that it has found or made, and those that it made.
+/// A contract sees it as a `Turn`, `specs/Turns.antt`: its lock, its side, whether it is inside, its last lock ticket,
+/// the sections that it has found or made, and those that it made.
 #[derive(Drop)]
 pub struct TurnSeat {
     pub(crate) seat: Seat<Option<WarpState>, View>,

@@ -1,16 +1,16 @@
 //! The two sides of a warp run, one reading of it, and the whole.
 use clk_num::List;
 
-/// A side of a warp run: CPU 0, whose counter is taken as right, or the CPU that is brought up. After `check_tsc_sync_source`
-/// and `check_tsc_sync_target` of Linux 6.1's `arch/x86/kernel/tsc_sync.c`.
+/// A side of a warp run: CPU 0, whose counter is taken as right, or the CPU that is brought up. After
+/// `check_tsc_sync_source` and `check_tsc_sync_target` of Linux 6.1's `arch/x86/kernel/tsc_sync.c`.
 #[derive(Clone, Copy, PartialEq, Eq, Debug)]
 pub enum Side {
     Source,
     Target,
 }
 
-/// One reading of a warp run: whose it is, whether it is the side's start reading, the ticket that was drawn for it, and
-/// the counter there, in cycles.
+/// One reading of a warp run: whose it is, whether it is the side's start reading, the ticket that was drawn for it,
+/// and the counter there, in cycles.
 #[derive(Clone, Copy, PartialEq, Eq, Debug)]
 pub struct WarpReading {
     pub side: Side,

@@ -32,9 +32,9 @@ pub enum TableOf {
     OfTable(Snapshot<TicketTable>),
 }
 
-/// The state of a warp run: the readings in lock order with what they count, the time seat, and how many sections were made.
-/// It holds room and tickets for all readings that the run may still make, and no reading before both sides arrived. All its
-/// memory is taken when it is made.
+/// The state of a warp run: the readings in lock order with what they count, the time seat, and how many sections were
+/// made. It holds room and tickets for all readings that the run may still make, and no reading before both sides
+/// arrived. All its memory is taken when it is made.
 ///
 /// A contract sees it as a `Run`, `specs/Run.antt`.
 #[derive(Drop)]
@@ -63,9 +63,9 @@ impl Model for WarpState {
 }
 
 impl WarpState {
-    /// The state of a run of CPU `cpu`, 1 or more, whose two sides are there from the start. The target adds `adjust` cycles,
-    /// within 2^48 of 0, to its counter, and `time` has a ticket for each reading that the run may make, `2 * (turns + 10)`.
-    /// The error is want of memory, and hands the seat back.
+    /// The state of a run of CPU `cpu`, 1 or more, whose two sides are there from the start. The target adds `adjust`
+    /// cycles, within 2^48 of 0, to its counter, and `time` has a ticket for each reading that the run may make, `2 *
+    /// (turns + 10)`. The error is want of memory, and hands the seat back.
     pub fn new(
         alloc: Global,
         machine: &Machine,
@@ -96,8 +96,8 @@ impl WarpState {
         })
     }
 
-    /// The state of a run of CPU `cpu`, 1 or more, in which no side has arrived. It draws from `tickets` once the source has
-    /// brought a time seat. The error is want of memory.
+    /// The state of a run of CPU `cpu`, 1 or more, in which no side has arrived. It draws from `tickets` once the
+    /// source has brought a time seat. The error is want of memory.
     pub fn apart(
         alloc: Global,
         machine: &Machine,
@@ -121,9 +121,9 @@ impl WarpState {
         })
     }
 
-    /// Notes that a side has arrived, which it had not. The source brings the run's time seat, of the state's ticket table
-    /// with `2 * (turns + 10)` tickets left, and what the target adds to its counter, within 2^48 cycles of 0. It is one
-    /// section.
+    /// Notes that a side has arrived, which it had not. The source brings the run's time seat, of the state's ticket
+    /// table with `2 * (turns + 10)` tickets left, and what the target adds to its counter, within 2^48 cycles of 0. It
+    /// is one section.
     pub fn arrive(&mut self, side: Side, start: Option<(TimeSeat, i64)>)
         requires away { is_here side self.old ≡ false }
         requires start { IsStartOf side self.old start }
@@ -170,7 +170,8 @@ impl WarpState {
         self.ended(Side::Source) && self.ended(Side::Target)
     }
 
-    /// The next reading of a side: one ticket, and the side's counter there. It is one section, and the side has not ended.
+    /// The next reading of a side: one ticket, and the side's counter there. It is one section, and the side has not
+    /// ended.
     pub(crate) fn read(
         &mut self,
         side: Side,

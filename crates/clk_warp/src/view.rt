@@ -14,7 +14,8 @@ pub enum Role {
     Spent,
 }
 
-// Where a seat is: outside, with a ticket, called by it, with the state, or outside again with the lock still to be handed on.
+// Where a seat is: outside, with a ticket, called by it, with the state, or outside again with the lock still to be
+// handed on.
 pub enum Stage {
     Away,
     Waiting,
@@ -30,7 +31,8 @@ pub struct View {
     pub role: Role,
     pub stage: Stage,
     pub ticket: u64,
-    // The sections that it has found or made, those that it made, and after a join what the other seat had found or made.
+    // The sections that it has found or made, those that it made, and after a join what the other seat had found or
+    // made.
     pub known: LinkedList<Section>,
     pub own: LinkedList<Section>,
     pub told: LinkedList<Section>,

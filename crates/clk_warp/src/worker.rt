@@ -27,12 +27,12 @@ pub struct Turned {
     ended: bool,
 }
 
-/// Runs one side of a warp run: its start reading and its turns, up to its last. The seat is the lock's seat of that side,
-/// it is outside, has made no reading and has found both sides here. The ticket table, the machine and the CPU are those of
-/// the lock's first state.
+/// Runs one side of a warp run: its start reading and its turns, up to its last. The seat is the lock's seat of that
+/// side, it is outside, has made no reading and has found both sides here. The ticket table, the machine and the CPU
+/// are those of the lock's first state.
 ///
-/// The gate is passed outside the lock before each turn, with the side's CPU as thread, the turn's number as operation, and
-/// the counter at the side's reading before. It waits for the lock. After `check_tsc_warp` of Linux 6.1's
+/// The gate is passed outside the lock before each turn, with the side's CPU as thread, the turn's number as operation,
+/// and the counter at the side's reading before. It waits for the lock. After `check_tsc_warp` of Linux 6.1's
 /// `arch/x86/kernel/tsc_sync.c`.
 pub fn warp_worker<R: Wait, G: Gate>(
     rt: &R,

@@ -12,7 +12,7 @@ use Rattle.clk_watch.specs.declared.record.Outcome.{Outcome}
 use Rattle.clk_watch.specs.declared.record.Outcome.TheVariants.{Passed, Slow, Skip, First, Good, Bad}
 use Rattle.clk_watch.specs.declared.watched.Pair.{Pair}
 use Rattle.clk_watch.specs.declared.watched.Watched.{Watched}
-use Rattle.clk_watch.specs.Brackets.{skew_of, watchdog_ns, decided, IsBracket}
+use Rattle.clk_watch.specs.Brackets.{skew_of, reference_ns, decided, IsBracket}
 use Rattle.clk_watch.specs.Fold.{outcome_of, ends_check, unmarked, left_of, left_by, watched_at, last_of, pair_of, IsReadBy}
 use Rattle.clk_watch.specs.Small.{IsSmallPair, IsSmallWatched, IsSmallBracket}
 use Rattle.clk_watch.specs.Visiting.{pair_in}
@@ -45,7 +45,7 @@ slow_by false false c w e = refl
 pub pair_is : (m : Plan) (attempts : List Attempt) (cs wd : ℕ) → IsBracket m attempts (Accepted cs wd) → pair_of (last_of attempts) ≡ record { cs = cs; wd = wd }
 pair_is m attempts cs wd b =
     let at = λ (i : ℕ). slice_index b.last.value i in
-    let both = accepted_by (nat_le (watchdog_ns m (at 0) (at 2)) (skew_of m)) _ cs wd (at 1) (at 0) b.outcome_is in
+    let both = accepted_by (nat_le (reference_ns m (at 0) (at 2)) (skew_of m)) _ cs wd (at 1) (at 0) b.outcome_is in
     ap pair_of (last_is b.before b.last attempts b.attempts_are)
     ∙ (let a = both.0 in let e : pair_of b.last ≡ record { cs = cs; wd = wd } = ap (λ n. record { cs = n; wd = at 0 }) (sym a) ∙ ap (λ n. record { cs = cs; wd = n }) (sym both.1) in e)
 
@@ -54,13 +54,13 @@ pub accepted_is : (m : Plan) (attempts : List Attempt) (cs wd : ℕ) → IsBrack
 accepted_is m attempts cs wd b =
     let at = λ (i : ℕ). slice_index b.last.value i in
     ap (decided m) (last_is b.before b.last attempts b.attempts_are)
-    ∙ decided_by (nat_le (watchdog_ns m (at 0) (at 2)) (skew_of m)) _ cs wd (at 1) (at 0) b.outcome_is
+    ∙ decided_by (nat_le (reference_ns m (at 0) (at 2)) (skew_of m)) _ cs wd (at 1) (at 0) b.outcome_is
 
 -- and the last one of a slow bracket decides nothing
 pub slow_is : (m : Plan) (attempts : List Attempt) → IsBracket m attempts SlowBracket → decided m (last_of attempts) ≡ None
 slow_is m attempts b =
     let at = λ (i : ℕ). slice_index b.last.value i in
-    ap (decided m) (last_is b.before b.last attempts b.attempts_are) ∙ slow_by (nat_le (watchdog_ns m (at 0) (at 2)) (skew_of m)) _ (at 1) (at 0) b.outcome_is
+    ap (decided m) (last_is b.before b.last attempts b.attempts_are) ∙ slow_by (nat_le (reference_ns m (at 0) (at 2)) (skew_of m)) _ (at 1) (at 0) b.outcome_is
 
 -- so what is left is told by the attempts
 pub left_same : (m : Plan) (s : ℕ) (w : Watched) (attempts : List Attempt) (ends : Option Bracket) (ws : List Watched) → IsReadBy m w attempts ends

@@ -17,7 +17,7 @@ use Rattle.clk_watch.specs.declared.record.Outcome.TheVariants.{Passed, Slow, Sk
 use Rattle.clk_watch.specs.declared.record.SourceRecord.{SourceRecord}
 use Rattle.clk_watch.specs.declared.watched.Pair.{Pair}
 use Rattle.clk_watch.specs.declared.watched.Watched.{Watched}
-use Rattle.clk_watch.specs.Brackets.{watchdog_ns}
+use Rattle.clk_watch.specs.Brackets.{reference_ns}
 use Rattle.clk_watch.specs.Fold.{source_ns, margin_of, compared, judged, outcome_of, is_lost, ends_check, first_of, at_first, unmarked, left_of, left_by, watched_at, attempts_of, last_of, pair_of, after_record, watch_after, ratings_of, IsCurrent, IsReadBy, IsVisit, AreVisits}
 use Rattle.clk_watch.specs.Laws.{IsHealthy, HealthyIsNeverDemoted, DemotedStaysOut, LostAtBootStaysOut}
 use Rattle.clk_watch.proofs.Growing.{length_left, length_after}
@@ -34,10 +34,10 @@ within_margin margin cs wd h =
     subst (λ (far : Bool). is_lost (if far then Bad (pos cs) (pos wd) else Good (pos cs) (pos wd)) ≡ false) (sym (le-ltb margin (abs_diff cs wd) h)) refl
 
 kept_agrees : (m : Plan) (s : ℕ) (kept : Option Pair) (now : Pair)
-    → ((last : Pair) → kept ≡ Some last → abs_diff (source_ns m s last.cs now.cs) (watchdog_ns m last.wd now.wd) ≤ margin_of m s)
+    → ((last : Pair) → kept ≡ Some last → abs_diff (source_ns m s last.cs now.cs) (reference_ns m last.wd now.wd) ≤ margin_of m s)
     → is_lost (judged m s kept now) ≡ false
 kept_agrees m s None now agrees = refl
-kept_agrees m s (Some last) now agrees = within_margin (margin_of m s) (source_ns m s last.cs now.cs) (watchdog_ns m last.wd now.wd) (agrees last refl)
+kept_agrees m s (Some last) now agrees = within_margin (margin_of m s) (source_ns m s last.cs now.cs) (reference_ns m last.wd now.wd) (agrees last refl)
 
 healthy_outcome : (m : Plan) (s : ℕ) (w : Watched) (attempts : List Attempt) (ends : Option Bracket) → IsReadBy m w attempts ends → IsHealthy m s w attempts
     → is_lost (outcome_of m s w ends) ≡ false

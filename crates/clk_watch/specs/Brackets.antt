@@ -32,35 +32,35 @@ retries_of m = retries_in m.watchdog
 -- ---- readings
 
 -- the watchdog reads the low bits of the reference
-abbrev pub watchdog_at : Plan → ℕ → ℕ
-watchdog_at m k = low_bits (count_of m.reference.bits) (reference_at m k)
+abbrev pub reference_shown : Plan → ℕ → ℕ
+reference_shown m k = low_bits (count_of m.reference.bits) (reference_at m k)
 
 -- a TSC source is the counter of the CPU that reads it
 abbrev pub source_reading : Plan → ℕ → ℤ → ℕ → ℕ → ℕ
 source_reading m cpu adjust s k = if (source_plan_at m s).tsc then counter_at m cpu adjust k else source_at m s k
 
--- the ns of the watchdog from one of its readings to another
-abbrev pub watchdog_ns : Plan → ℕ → ℕ → ℕ
-watchdog_ns m last now = convert (masked_delta now last (count_of m.reference.bits)) (reference_rate m)
+-- the ns of the reference from one of its readings to another
+abbrev pub reference_ns : Plan → ℕ → ℕ → ℕ
+reference_ns m last now = convert (masked_delta now last (count_of m.reference.bits)) (reference_rate m)
 
 -- the four readings of an attempt at source s, on this CPU, are those at its tickets
 pub record IsRightAttempt (m : Plan) (cpu : ℕ) (adjust : ℤ) (s : ℕ) (a : Attempt) : Type 0 where
   pub tickets : length a.ticket ≡ 4
   pub values : length a.value ≡ 4
-  pub before : slice_index a.value 0 ≡ watchdog_at m (slice_index a.ticket 0)
+  pub before : slice_index a.value 0 ≡ reference_shown m (slice_index a.ticket 0)
   pub source : slice_index a.value 1 ≡ source_reading m cpu adjust s (slice_index a.ticket 1)
-  pub after : slice_index a.value 2 ≡ watchdog_at m (slice_index a.ticket 2)
-  pub again : slice_index a.value 3 ≡ watchdog_at m (slice_index a.ticket 3)
+  pub after : slice_index a.value 2 ≡ reference_shown m (slice_index a.ticket 2)
+  pub again : slice_index a.value 3 ≡ reference_shown m (slice_index a.ticket 3)
 
 -- ---- what attempts decide
 
--- an attempt is accepted where its reading of the source took at most the skew; else it says to skip where the watchdog
--- alone took more than half the skew, rounded down; else it decides nothing
+-- an attempt is accepted where its reading of the source took at most the skew; else it says to skip where the
+-- reference's two readings after that alone took more than half the skew, rounded down; else it decides nothing
 abbrev pub decided : Plan → Attempt → Option Bracket
 decided m a =
-    if nat_le (watchdog_ns m (slice_index a.value 0) (slice_index a.value 2)) (skew_of m)
+    if nat_le (reference_ns m (slice_index a.value 0) (slice_index a.value 2)) (skew_of m)
     then Some (Accepted (slice_index a.value 1) (slice_index a.value 0))
-    else (if nat_lt (skew_of m / 2) (watchdog_ns m (slice_index a.value 2) (slice_index a.value 3)) then Some Skip else None)
+    else (if nat_lt (skew_of m / 2) (reference_ns m (slice_index a.value 2) (slice_index a.value 3)) then Some Skip else None)
 
 -- all attempts but the last decide nothing, and the bracket is slow where none does after all retries
 pub record IsBracket (m : Plan) (attempts : List Attempt) (outcome : Bracket) : Type 0 where

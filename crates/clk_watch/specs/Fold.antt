@@ -13,7 +13,7 @@ use Rattle.clk_watch.specs.declared.record.Outcome.TheVariants.{Passed, Slow, Sk
 use Rattle.clk_watch.specs.declared.record.SourceRecord.{SourceRecord}
 use Rattle.clk_watch.specs.declared.watched.Pair.{Pair}
 use Rattle.clk_watch.specs.declared.watched.Watched.{Watched}
-use Rattle.clk_watch.specs.Brackets.{watchdog_ns, IsBracket}
+use Rattle.clk_watch.specs.Brackets.{reference_ns, IsBracket}
 
 -- ---- what a bracket says of a source
 
@@ -31,7 +31,7 @@ compared margin cs wd = if nat_lt margin (abs_diff cs wd) then Bad (pos cs) (pos
 -- an accepted pair, after the pair that was kept, if any
 abbrev pub judged : Plan → ℕ → Option Pair → Pair → Outcome
 judged m s None now = First
-judged m s (Some last) now = compared (margin_of m s) (source_ns m s last.cs now.cs) (watchdog_ns m last.wd now.wd)
+judged m s (Some last) now = compared (margin_of m s) (source_ns m s last.cs now.cs) (reference_ns m last.wd now.wd)
 
 -- the outcome by how the bracket ended; a source that was not read was passed over
 abbrev pub outcome_of : Plan → ℕ → Watched → Option Bracket → Outcome
@@ -41,19 +41,30 @@ outcome_of m s w (Some SlowBracket) = Slow
 outcome_of m s w (Some (Accepted cs wd)) = judged m s w.kept (record { cs = cs; wd = wd })
 
 abbrev pub is_good : Outcome → Bool
+is_good Passed = false
+is_good Slow = false
+is_good Skip = false
+is_good First = false
 is_good (Good cs_ns wd_ns) = true
-is_good _ = false
+is_good (Bad cs_ns wd_ns) = false
 
 -- the outcomes that make a source unstable
 abbrev pub is_lost : Outcome → Bool
+is_lost Passed = false
 is_lost Slow = true
+is_lost Skip = false
+is_lost First = false
+is_lost (Good cs_ns wd_ns) = false
 is_lost (Bad cs_ns wd_ns) = true
-is_lost _ = false
 
 -- the outcome that ends a check
 abbrev pub ends_check : Outcome → Bool
+ends_check Passed = false
+ends_check Slow = false
 ends_check Skip = true
-ends_check _ = false
+ends_check First = false
+ends_check (Good cs_ns wd_ns) = false
+ends_check (Bad cs_ns wd_ns) = false
 
 -- ---- what a record leaves of the sources
 

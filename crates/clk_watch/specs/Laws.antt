@@ -11,15 +11,15 @@ use Rattle.clk_watch.specs.declared.record.Outcome.TheVariants.{Passed}
 use Rattle.clk_watch.specs.declared.record.SourceRecord.{SourceRecord}
 use Rattle.clk_watch.specs.declared.watched.Pair.{Pair}
 use Rattle.clk_watch.specs.declared.watched.Watched.{Watched}
-use Rattle.clk_watch.specs.Brackets.{watchdog_ns, decided}
+use Rattle.clk_watch.specs.Brackets.{reference_ns, decided}
 use Rattle.clk_watch.specs.Fold.{source_ns, margin_of, is_lost, at_first, watched_at, attempts_of, last_of, after_record, watch_after, ratings_of, IsCurrent, AreVisits}
 
--- in a visit some attempt decided, and where it was accepted after a kept pair, the source and the watchdog went the same
--- time since then, but for the margin
+-- in a visit some attempt decided, and where it was accepted after a kept pair, the source and the watchdog went the
+-- same time since then, but for the margin
 pub record IsHealthy (m : Plan) (s : ℕ) (w : Watched) (attempts : List Attempt) : Type 0 where
   pub decides : decided m (last_of attempts) ≢ None
   pub agrees : (cs wd : ℕ) (last : Pair) → decided m (last_of attempts) ≡ Some (Accepted cs wd) → w.kept ≡ Some last
-      → abs_diff (source_ns m s last.cs cs) (watchdog_ns m last.wd wd) ≤ margin_of m s
+      → abs_diff (source_ns m s last.cs cs) (reference_ns m last.wd wd) ≤ margin_of m s
 
 -- it does in each of its visits
 abbrev pub StaysHealthy : Plan → ℕ → List Attempt → List Watched → List SourceRecord → Type 0

@@ -21,7 +21,7 @@ pub record Watching : Type 0 where
 abbrev pub kept_of : Watching → List Watched
 kept_of w = watch_after w.attempts.items (at_first w.machine w.tsc_unstable) w.records.items
 
--- how many visits the checks of a machine make at most
+-- how many checks a machine asks for, none without a watchdog, and how many visits they make at most
 abbrev pub checks_in : Option WatchPart → ℕ
 checks_in None = 0
 checks_in (Some w) = count_of w.checks

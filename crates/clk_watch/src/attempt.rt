@@ -1,7 +1,7 @@
 //! Readings of a source between readings of the reference.
 
-/// One attempt at a bracket: four readings in a row, each at a ticket of its own. They are the watchdog, the source, the
-/// watchdog and the watchdog again, in cycles. The watchdog shows the low bits of the reference.
+/// One attempt at a bracket: four readings in a row, each at a ticket of its own. They are the watchdog, the source,
+/// the watchdog and the watchdog again, in cycles. The watchdog shows the low bits of the reference.
 /// After `cs_watchdog_read` of Linux 6.1's `kernel/time/clocksource.c`.
 #[derive(Clone, Copy, PartialEq, Eq, Debug)]
 pub struct Attempt {

@@ -5,7 +5,7 @@ ghost use Rattle.clk_watch.specs.Fold.{compared, judged as judged_by, outcome_of
 ghost use Rattle.clk_watch.specs.Small.{IsSmallBracket, IsSmallKept, IsSmallPair, IsSmallWatched};
 
 use crate::attempt::Bracket;
-use crate::numbers::{margin, source_ns, watchdog_ns};
+use crate::numbers::{margin, reference_ns, source_ns};
 use crate::record::Outcome;
 use crate::watched::{Pair, Watched};
 use clk_machine::Machine;
@@ -44,7 +44,7 @@ fn judged(machine: &Machine, s: u32, kept: &Option<Pair>, now: &Pair) -> Outcome
         Some(last) => compare(
             margin(machine, s),
             source_ns(machine, s, last.cs, now.cs),
-            watchdog_ns(machine, last.wd, now.wd),
+            reference_ns(machine, last.wd, now.wd),
         ),
     }
 }

@@ -1,8 +1,8 @@
 //! Laws of the fold of records.
 ghost use Rattle.clk_watch.specs.Laws.{HealthyIsNeverDemoted, DemotedStaysOut, LostAtBootStaysOut};
 
-/// A source that is never slow, and whose ns since its kept readings agree with the watchdog's within the margins in every
-/// visit, is never demoted.
+/// A source that is never slow, and whose ns since its kept readings agree with the watchdog's within the margins in
+/// every visit, is never demoted.
 pub fn healthy_is_never_demoted()
     ensures { HealthyIsNeverDemoted }
 {}

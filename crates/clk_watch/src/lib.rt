@@ -1,9 +1,10 @@
 //! The clocksource watchdog: it reads each clock source between two readings of the reference, and judges it.
 //!
-//! A [`Watch`] follows `clocksource_watchdog` and `cs_watchdog_read` of Linux 6.1's `kernel/time/clocksource.c`. A bracket
-//! reads the watchdog, the source and the watchdog twice more, again where that took too long: [`Attempt`], [`Bracket`]. A
-//! source is compared with the watchdog by how far both went since the readings that were kept of them: [`Outcome`]. It
-//! is demoted where they differ by more than its margin and the reference's, or where no bracket of it is short enough.
+//! A [`Watch`] follows `clocksource_watchdog` and `cs_watchdog_read` of Linux 6.1's `kernel/time/clocksource.c`. A
+//! bracket reads the watchdog, the source and the watchdog twice more, again where that took too long: [`Attempt`],
+//! [`Bracket`]. A source is compared with the watchdog by how far both went since the readings that were kept of them:
+//! [`Outcome`]. It is demoted where they differ by more than its margin and the reference's, or where no bracket of it
+//! is short enough.
 //!
 //! It promises that each outcome is exactly what the recorded attempts call for, by `specs/Brackets.antt` and
 //! `specs/Fold.antt`, and that each attempt shows the counters at the tickets that were drawn for it. No call but

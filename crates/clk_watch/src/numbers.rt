@@ -2,7 +2,7 @@
 ghost use Rattle.std.specs.Prelude.{◌≡◌, ◌+◌, ◌*◌, ◌^◌, ◌<◌, ◌≤◌, pos, length};
 ghost use Rattle.clk_machine.specs.Plan.{count_of};
 ghost use Rattle.clk_machine.specs.Limits.{IsWithinLimits};
-ghost use Rattle.clk_watch.specs.Brackets.{skew_of, retries_of, watchdog_ns as watchdog_ns_of};
+ghost use Rattle.clk_watch.specs.Brackets.{skew_of, retries_of, reference_ns as reference_ns_of};
 ghost use Rattle.clk_watch.specs.Fold.{margin_of, source_ns as source_ns_of};
 ghost use Rattle.clk_watch.specs.Watching.{visits_of};
 ghost use Rattle.clk_watch.specs.Small.{IsSmall};
@@ -53,7 +53,7 @@ pub(crate) fn visits(machine: &Machine) -> u64
     }
 }
 
-/// How far source `s` and the watchdog may differ, in ns.
+/// How far source `s` and the reference may differ, in ns.
 pub(crate) fn margin(machine: &Machine, s: u32) -> u64
     requires limits { IsWithinLimits machine.now }
     requires source { s < length machine.now.source }
@@ -62,12 +62,12 @@ pub(crate) fn margin(machine: &Machine, s: u32) -> u64
     count(&machine.source(s).margin) + count(&machine.reference_part().margin)
 }
 
-/// The ns of the watchdog from one of its readings to another.
-pub(crate) fn watchdog_ns(machine: &Machine, last: u64, now: u64) -> u64
+/// The ns of the reference from one of its readings to another.
+pub(crate) fn reference_ns(machine: &Machine, last: u64, now: u64) -> u64
     requires limits { IsWithinLimits machine.now }
     requires last { IsSmall last }
     requires now { IsSmall now }
-    ensures ns { result ≡ watchdog_ns_of machine.now last now }
+    ensures ns { result ≡ reference_ns_of machine.now last now }
     ensures few { result < 2 ^ 60 }
 {
     let bits = count(&machine.reference_part().bits) as u32;

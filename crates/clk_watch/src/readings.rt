@@ -5,7 +5,7 @@ ghost use Rattle.clk_ticket.specs.Time.{Draws};
 ghost use Rattle.clk_machine.specs.Plan.{cpu_count};
 ghost use Rattle.clk_machine.specs.Limits.{most_tickets, IsWithinLimits};
 ghost use Rattle.clk_watch.specs.Draws.{DrawsEach};
-ghost use Rattle.clk_watch.specs.Brackets.{watchdog_at, source_reading, IsRightAttempt};
+ghost use Rattle.clk_watch.specs.Brackets.{reference_shown, source_reading, IsRightAttempt};
 ghost use Rattle.clk_watch.specs.Small.{IsSmall, IsSmallAttempt};
 
 use crate::attempt::Attempt;
@@ -54,7 +54,7 @@ fn read_watchdog(machine: &Machine, tickets: &TicketTable, time: &mut TimeSeat) 
     requires table { time.old.table ≡ tickets.now.table }
     requires ticket { 1 ≤ time.old.left }
     ensures draws { Draws time.old result.ticket 1 time.new }
-    ensures cycles { result.cycles ≡ watchdog_at machine.now result.ticket }
+    ensures cycles { result.cycles ≡ reference_shown machine.now result.ticket }
     ensures small { IsSmall result.cycles }
 {
     let ticket = tickets.draw(time, 1);

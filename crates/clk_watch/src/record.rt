@@ -18,8 +18,8 @@ pub enum Outcome {
     Bad { cs_ns: i64, wd_ns: i64 },
 }
 
-/// A source in a check: its place, its attempts, which are the `count` ones from `first` on in the watch's list, and what
-/// they showed.
+/// A source in a check: its place, its attempts, which are the `count` ones from `first` on in the watch's list, and
+/// what they showed.
 #[derive(Clone, Copy, PartialEq, Eq, Debug)]
 pub struct SourceRecord {
     pub source: u32,

@@ -199,8 +199,8 @@ fn drifting_source_is_demoted(rt: HostRuntime) -> Result<(), Fail> {
     Ok(())
 }
 
-/// A bracket that begins at ticket 0, where a ticket is 1 ns, a cycle is 1 ns and these tickets take longer; and how many
-/// attempts it has.
+/// A bracket that begins at ticket 0, where a ticket is 1 ns, a cycle is 1 ns and these tickets take longer; and how
+/// many attempts it has.
 fn bracket_with<R: Abort>(
     rt: &R,
     alloc: Global,

@@ -8,7 +8,7 @@ ghost use Rattle.clk_watch.specs.Small.{IsSmallAttempt, IsSmallBracket};
 ghost use Rattle.clk_watch.specs.Trying.{TriesOnce};
 
 use crate::attempt::{Attempt, Bracket};
-use crate::numbers::{retries, skew, watchdog_ns};
+use crate::numbers::{reference_ns, retries, skew};
 use crate::readings::attempt;
 use clk_machine::{CpuCounter, Machine};
 use clk_num::List;
@@ -76,12 +76,12 @@ pub(crate) fn decide(machine: &Machine, attempt: &Attempt) -> Option<Bracket>
 {
     let [before, source, after, again] = attempt.value;
     let skew = skew(machine);
-    if watchdog_ns(machine, before, after) <= skew {
+    if reference_ns(machine, before, after) <= skew {
         Some(Bracket::Accepted {
             cs: source,
             wd: before,
         })
-    } else if watchdog_ns(machine, after, again) > skew / 2 {
+    } else if reference_ns(machine, after, again) > skew / 2 {
         Some(Bracket::Skip)
     } else {
         None

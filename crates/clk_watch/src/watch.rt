@@ -73,8 +73,8 @@ impl Watch {
         })
     }
 
-    /// A bracket of source `s`, counted from 0, on the counter's CPU: at most as many attempts as there are retries and one
-    /// more, each of four tickets, which are appended. No record names them.
+    /// A bracket of source `s`, counted from 0, on the counter's CPU: at most as many attempts as there are retries and
+    /// one more, each of four tickets, which are appended. No record names them.
     /// After `cs_watchdog_read` of Linux 6.1's `kernel/time/clocksource.c`.
     pub fn bracket(
         &mut self,
@@ -98,9 +98,9 @@ impl Watch {
         bracket_of(&mut self.attempts, s, counter, tickets, time)
     }
 
-    /// Visits source `s`, counted from 0, on the counter's CPU: it passes over an unstable source, and reads any other one
-    /// and judges it. The attempts and the record are appended. After one pass of the loop of `clocksource_watchdog` of
-    /// Linux 6.1's `kernel/time/clocksource.c`.
+    /// Visits source `s`, counted from 0, on the counter's CPU: it passes over an unstable source, and reads any other
+    /// one and judges it. The attempts and the record are appended. After one pass of the loop of
+    /// `clocksource_watchdog` of Linux 6.1's `kernel/time/clocksource.c`.
     ///
     /// A check calls this for each source in order, on any one CPU, and ends after a record that says `Skip`.
     pub fn check_source(
@@ -133,8 +133,8 @@ impl Watch {
         record
     }
 
-    /// The place of the current source, or the number of sources for the reference: that of the greatest rating, the first
-    /// one on a tie, and the reference last. An unstable source has rating 0.
+    /// The place of the current source, or the number of sources for the reference: that of the greatest rating, the
+    /// first one on a tie, and the reference last. An unstable source has rating 0.
     /// After `clocksource_select` of Linux 6.1's `kernel/time/clocksource.c`.
     pub fn current(&self) -> u32
         ensures { IsCurrent (ratings_of self.now.machine (kept_of self.now)) result }

@@ -7,8 +7,8 @@ pub struct Pair {
     pub wd: u64,
 }
 
-/// A watched source: the readings that were kept of it, if any, whether it is unstable, and its rating, which is 0 where it
-/// is. After the fields `cs_last`, `wd_last`, `flags` and `rating` of `struct clocksource` of Linux 6.1.
+/// A watched source: the readings that were kept of it, if any, whether it is unstable, and its rating, which is 0
+/// where it is. After the fields `cs_last`, `wd_last`, `flags` and `rating` of `struct clocksource` of Linux 6.1.
 #[derive(Clone, Copy, PartialEq, Eq, Debug)]
 pub struct Watched {
     pub kept: Option<Pair>,

@@ -1,10 +1,9 @@
 -- Which visits have a stamp or a demotion, by the records of all of them.
-use Rattle.std.proofs.Common.{◌≡◌, ℕ, zero, suc, ◌≤◌, pos, List, [], ◌∷◌, ◌++◌, map, length, get_or, refl, sym, ◌∙◌, ap, subst, arith}
-use Rattle.std.specs.Prelude.{Bool, true, false, not, ◌&&◌, is_some, IsTrue, if◌then◌else◌}
-use Rattle.std.specs.List.{All, sum_by}
+use Rattle.std.proofs.Common.{◌≡◌, ℕ, List, [], ◌∷◌, ◌++◌, map, length, refl, sym, ◌∙◌, ap, subst}
+use Rattle.std.specs.Prelude.{Bool, true, false, not, ◌&&◌, is_some, if◌then◌else◌}
+use Rattle.std.specs.List.{All}
 use Rattle.std.proofs.lemmas.List.Elements.{All-nil, All-cons, All-head, All-tail}
-use Rattle.std.proofs.lemmas.List.Sums.{sum_by-cons}
-use Rattle.clk_machine.specs.Plan.{Plan, SourcePlan}
+use Rattle.clk_machine.specs.Plan.{Plan}
 use Rattle.clk_machine.specs.Limits.{IsWithinLimits}
 use Rattle.clk_machine.specs.Time.{source_plan_at}
 use Rattle.clk_watch.specs.declared.attempt.Attempt.{Attempt}
@@ -16,7 +15,7 @@ use Rattle.clk_watch.proofs.Growing.{length_left}
 use Rattle.clk_watch.proofs.Staying.{demoted_stays}
 use Rattle.clk_trace.specs.Checks.{Visit}
 use Rattle.clk_watcher.specs.Keeping.{AreCalled, demoted_after}
-use Rattle.clk_watcher.specs.Calling.{stamps_at}
+use Rattle.clk_watcher.proofs.OneTsc.{both_true, false_by, tsc_once}
 
 -- ---- none
 
@@ -84,45 +83,6 @@ abbrev pub AllCalled : Bool → List Visit → Type 0
 AllCalled stable [] = Unit {0}
 AllCalled stable (v ∷ visits) =
     (is_some v.stamp ≡ (stable && v.made.tsc_current)) × (is_some v.demotion ≡ (stable && v.made.tsc_demoted)) × AllCalled stable visits
-
--- one source at most is the TSC
-abbrev nothing : SourcePlan
-nothing = record { tsc = false; rating = pos 0; margin = pos 0; khz = pos 0; nominal_khz = pos 0; bits = pos 0; jumps = [] }
-
-some_tsc : (xs : List SourcePlan) (i : ℕ) → (get_or xs i nothing).tsc ≡ true → 1 ≤ sum_by stamps_at xs
-some_tsc [] i e = absurd (cc)
-some_tsc (x ∷ xs) zero e =
-    let sum = sum_by-cons stamps_at x xs in
-    let one : stamps_at x ≡ 1 = rw e refl in
-    omega (arith, sum, one)
-some_tsc (x ∷ xs) (suc i) e = let sum = sum_by-cons stamps_at x xs in let rest = some_tsc xs i e in omega (arith, sum, rest)
-
-tsc_once : (xs : List SourcePlan) (i j : ℕ) → sum_by stamps_at xs ≤ 1 → (get_or xs i nothing).tsc ≡ true → (get_or xs j nothing).tsc ≡ true → i ≡ j
-tsc_once [] i j few p q = absurd (cc)
-tsc_once (x ∷ xs) zero zero few p q = refl
-tsc_once (x ∷ xs) zero (suc j) few p q =
-    let sum = sum_by-cons stamps_at x xs in
-    let one : stamps_at x ≡ 1 = rw p refl in
-    let rest = some_tsc xs j q in
-    absurd (omega (arith, sum, one, rest, few))
-tsc_once (x ∷ xs) (suc i) zero few p q =
-    let sum = sum_by-cons stamps_at x xs in
-    let one : stamps_at x ≡ 1 = rw q refl in
-    let rest = some_tsc xs i p in
-    absurd (omega (arith, sum, one, rest, few))
-tsc_once (x ∷ xs) (suc i) (suc j) few p q =
-    let sum = sum_by-cons stamps_at x xs in
-    ap suc (tsc_once xs i j (omega (arith, sum, few)) p q)
-
-both_true : (a b : Bool) → IsTrue (a && b) → (a ≡ true) × (b ≡ true)
-both_true true true h = (refl, refl)
-both_true true false h = absurd (let e : false ≡ true = h in cc)
-both_true false true h = absurd (let e : false ≡ true = h in cc)
-both_true false false h = absurd (let e : false ≡ true = h in cc)
-
-false_by : (b : Bool) → (b ≡ true → ⊥) → b ≡ false
-false_by true h = absurd (h refl)
-false_by false h = refl
 
 -- after the demotion no record is of a good or a lost TSC source
 module _ (m : Plan) (attempts : List Attempt) (limits : IsWithinLimits m) (source : ℕ) (tsc : (source_plan_at m source).tsc ≡ true) where

@@ -10,7 +10,7 @@ use Rattle.clk_watch.specs.Watching.{checks_in}
 use Rattle.clk_trace.specs.Checks.{Visit, Check, listed, visits_of, checks_of}
 use Rattle.clk_trace.specs.Checks.{checks_from, visits_from}
 use Rattle.clk_trace.specs.RightReadings.{NeverFall}
-use Rattle.clk_trace.specs.WatchText.{IsSized}
+use Rattle.clk_trace.specs.WritableWatch.{IsSized}
 use Rattle.clk_trace.specs.Watchdog.{IsPass, NamesAll, AreChecks, AreCalledFor}
 use Rattle.clk_trace.specs.declared.trace.WatchTrace.{WatchTrace}
 use Rattle.clk_worker.specs.declared.shared.Shared.{Shared}

@@ -1,4 +1,5 @@
--- The tickets of a watchdog: its time seat gains the blocks of its checks, each check's above what it had seen, and keeps its share.
+-- The tickets of a watchdog: its time seat gains the blocks of its checks, each check's above what it had seen, and
+-- keeps its share.
 use Rattle.std.proofs.Common.{◌≡◌, ℕ, ◌+◌, ◌≤◌, List, [], ◌∷◌, ◌++◌, map, ap, ◌∙◌, sym, refl, subst, append_assoc, append-nil, Option, Some, None}
 use Rattle.std.specs.List.{flat_map}
 use Rattle.std.proofs.lemmas.List.{map-append}

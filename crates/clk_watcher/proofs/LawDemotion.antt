@@ -1,5 +1,5 @@
--- The demotion among the visits of a watchdog: with none its seat at the words stays as it is, and with one it does before it
--- and after it.
+-- The demotion among the visits of a watchdog: with none its seat at the words stays as it is, and with one it does
+-- before it and after it.
 use Rattle.std.proofs.Common.{◌≡◌, ℕ, ◌+◌, true, List, [], ◌∷◌, ◌++◌, ap, ◌∙◌, sym, refl, subst, append_assoc, append-nil, ◌⊎◌, inl, inr, ⊎_elim, Option, Some, None}
 use Rattle.std.specs.Prelude.{is_some}
 use Rattle.std.specs.List.{All}

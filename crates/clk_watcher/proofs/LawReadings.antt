@@ -1,5 +1,5 @@
--- The readings of a watchdog are right by the records that it has seen of each CPU, which only grow, and the records that its
--- stamps name of a CPU do not go back.
+-- The readings of a watchdog are right by the records that it has seen of each CPU, which only grow, and the records
+-- that its stamps name of a CPU do not go back.
 use Rattle.std.proofs.Common.{◌≡◌, ℕ, ◌+◌, ◌<◌, ◌≤◌, ℤ, Bool, true, false, List, [], ◌∷◌, ◌++◌, map, length, ap, ◌∙◌, sym, refl, subst, arith, Option, Some, None}
 use Rattle.std.specs.List.{All, flat_map}
 use Rattle.std.specs.Prelude.{◌==◌, cond}

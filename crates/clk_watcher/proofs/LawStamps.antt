@@ -1,5 +1,5 @@
--- The stable stamps of a watchdog: each has its offset, and the watchdog goes by the last one. What its seat at the words knows
--- stays as it is until the demotion.
+-- The stable stamps of a watchdog: each has its offset, and the watchdog goes by the last one. What its seat at the
+-- words knows stays as it is until the demotion.
 use Rattle.std.proofs.Common.{◌≡◌, ℕ, ◌+◌, ℤ, List, [], ◌∷◌, ◌++◌, ap, ◌∙◌, sym, refl, subst, Option, Some, None}
 use Rattle.std.specs.List.{All, flat_map}
 use Rattle.std.proofs.lemmas.List.Elements.{All-nil, All-cons, All-append}

@@ -3,6 +3,7 @@ pub mod Following
 pub mod Visiting
 pub mod Contexts
 pub mod CheckMade
+pub mod OneTsc
 pub mod Called
 pub mod Cutting
 pub mod Making

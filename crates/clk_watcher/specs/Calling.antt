@@ -17,7 +17,7 @@ use Rattle.clk_demote.specs.declared.events.StableStamp.{StableStamp}
 use Rattle.clk_demote.specs.declared.events.Demotion.{Demotion}
 use Rattle.clk_demote.specs.Context.{Known, site_of, known_of, IsSeated, IsOfMachine, IsUsable, Keeps}
 use Rattle.clk_demote.specs.Lifts.{lifts_of}
-use Rattle.clk_demote.specs.Shows.{ShowsStable, ShowsDemotion}
+use Rattle.clk_demote.specs.Shows.{ShowsStableStamp, ShowsDemotion}
 use Rattle.clk_trace.specs.Checks.{Visit, listed, pause_of}
 use Rattle.clk_trace.specs.Watchdog.{IsPass}
 use Rattle.clk_trace.specs.declared.trace.WatchTrace.{WatchTrace}
@@ -123,7 +123,7 @@ pub record Follows (cpu check : ℕ) (r : SourceRecord) (stable : Bool) (v : Con
 -- a stamp was made and kept
 pub record Stamps (cpu : ℕ) (v : Context) (a : WatchTrace) (w : Context) (b : WatchTrace) : Type 0 where
   pub stamp : StableStamp
-  pub shows : ShowsStable (site_of v) cpu (known v) stamp (known w)
+  pub shows : ShowsStableStamp (site_of v) cpu (known v) stamp (known w)
   pub stamps : b.stamps.items ≡ a.stamps.items ++ stamp ∷ []
   pub room : b.stamps.room + 1 ≡ a.stamps.room
   pub rest : b ≡ record a { stamps = b.stamps }

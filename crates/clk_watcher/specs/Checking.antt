@@ -10,11 +10,11 @@ use Rattle.clk_demote.specs.declared.events.StableStamp.{StableStamp}
 use Rattle.clk_demote.specs.declared.events.Demotion.{Demotion}
 use Rattle.clk_demote.specs.Context.{Site, Known}
 use Rattle.clk_demote.specs.Lifts.{lifts_of}
-use Rattle.clk_demote.specs.Shows.{adjust_at, ShowsStable, ShowsDemotion}
+use Rattle.clk_demote.specs.Shows.{adjust_at, ShowsStableStamp, ShowsDemotion}
 use Rattle.clk_trace.specs.Checks.{Visit, Check, pause_of, checks_of}
 use Rattle.clk_trace.specs.RightReadings.{check_cpu}
 use Rattle.clk_trace.specs.Watchdog.{AreChecks, AreCalledFor}
-use Rattle.clk_trace.specs.WatchText.{IsSized}
+use Rattle.clk_trace.specs.WritableWatch.{IsSized}
 use Rattle.clk_trace.specs.declared.trace.WatchTrace.{WatchTrace}
 
 -- attempts at a source on this CPU: each shows the counters at the tickets that were drawn for it
@@ -31,7 +31,7 @@ pub record ShowsPause (v : Known) (ticket count : ℕ) (w : Known) : Type 0 wher
 -- a stable stamp, or none; a demotion in the check of this number, or none
 abbrev pub StampsAt : Site → ℕ → Known → Option StableStamp → Known → Type 0
 StampsAt z cpu v None w = v ≡ w
-StampsAt z cpu v (Some s) w = ShowsStable z cpu v s w
+StampsAt z cpu v (Some s) w = ShowsStableStamp z cpu v s w
 
 abbrev pub DemotesAt : Site → ℕ → ℕ → Known → Option Demotion → Known → Type 0
 DemotesAt z cpu check v None w = v ≡ w
@@ -62,8 +62,8 @@ abbrev pub KeepsLifts : Site → Known → WatchTrace → Option Demotion → Ty
 KeepsLifts z began w None = (w.lifts.items ≡ []) × (w.demoted_in ≡ 0)
 KeepsLifts z began w (Some d) = w.lifts.items ≡ lifts_of began.view.number began.view.start w.demoted_in d.opening (cpu_count z.machine)
 
--- a watchdog of this machine, whose clock was stable as it began if `stable` says so, and whose TSC source was lost at boot if
--- `lost` does, made all its checks from `began` to `ended`, and kept this
+-- a watchdog of this machine, whose clock was stable as it began if `stable` says so, and whose TSC source was lost at
+-- boot if `lost` does, made all its checks from `began` to `ended`, and kept this
 pub record HasWatched (z : Site) (stable lost : Bool) (began : Known) (w : WatchTrace) (ended : Known) : Type 0 where
   pub checks : AreChecks z.machine lost w
   pub called : AreCalledFor stable w

@@ -14,8 +14,8 @@ use Rattle.clk_trace.specs.declared.trace.WatchTrace.{WatchTrace}
 
 -- ---- visits
 
--- while the clock is stable a stamp stands after each record of a good TSC source that is current, and the demotion after the
--- one by which the TSC source was lost, which ends the stable mode
+-- while the clock is stable a stamp stands after each record of a good TSC source that is current, and the demotion
+-- after the one by which the TSC source was lost, which ends the stable mode
 abbrev pub AreCalled : Bool → List Visit → Bool → Type 0
 AreCalled stable [] after = stable ≡ after
 AreCalled stable (v ∷ visits) after =

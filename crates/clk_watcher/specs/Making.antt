@@ -25,8 +25,8 @@ use Rattle.clk_watcher.specs.Checking.{WatchesCheck, Watches, KeepsLifts, HasWat
 use Rattle.clk_watcher.specs.Keeping.{KeepsVisits, KeepsDemotion, KeepsChecks}
 use Rattle.clk_watcher.specs.declared.parts.WatchParts.{WatchParts}
 
--- what contracts see of a watcher: its parts, the number of its next check, whether the clock is stable by what it did, and
--- what it keeps
+-- what contracts see of a watcher: its parts, the number of its next check, whether the clock is stable by what it did,
+-- and what it keeps
 pub record Hand : Type 0 where
   pub parts : Option WatchParts
   pub next : ℕ

@@ -32,8 +32,8 @@ pub record IsLift (check : ℕ) (o opening : ℤ) (w : ℕ) (s : Step) : Type 0 
   pub old : s.old ≡ o
   pub new : s.new ≡ raise o opening
 
--- a demotion that the watchdog kept: it goes by the last stable stamp, the seat made its lifts and nothing else, and by its end
--- it knows the mode, the offset and each pair as the demotion left them
+-- a demotion that the watchdog kept: it goes by the last stable stamp, the seat made its lifts and nothing else, and by
+-- its end it knows the mode, the offset and each pair as the demotion left them
 pub record DemotedShows (z : Site) (began : Known) (w : WatchTrace) (ended : Known) (d : Demotion) : Type 0 where
   pub is : (stamp : StableStamp) → stamp ≡ last_stamp began.last w.stamps.items → IsDemotion z.sched_offset stamp.offset stamp d
   pub lifts : EachFrom (IsLift w.demoted_in (opens_at began.view.start) d.opening) 0 w.lifts.items
@@ -63,8 +63,8 @@ pub record WatchShows (z : Site) (began : Known) (w : WatchTrace) (ended : Known
   pub seen : w.demotion ≡ None → ended.view.seen ≡ began.view.seen
   pub demoted : (d : Demotion) → w.demotion ≡ Some d → DemotedShows z began w ended d
 
--- a watchdog that made all its checks shows that, where it began with blocks that rise, a latch's seat of each CPU, and the
--- offset of the stamp that it goes by
+-- a watchdog that made all its checks shows that, where it began with blocks that rise, a latch's seat of each CPU, and
+-- the offset of the stamp that it goes by
 abbrev pub WatchedIsShown : Type 0
 WatchedIsShown =
     (z : Site) (stable lost : Bool) (began : Known) (w : WatchTrace) (ended : Known)

@@ -18,8 +18,8 @@ use clk_trace::WatchTrace;
 use clk_watch::{Outcome, SourceRecord};
 use clk_worker::Shared;
 
-/// Makes the check of this number, and gives the parts back. `stable` says whether the clock is stable, which a demotion
-/// ends.
+/// Makes the check of this number, and gives the parts back. `stable` says whether the clock is stable, which a
+/// demotion ends.
 pub(crate) fn make_at(
     shared: &Shared,
     number: u32,

@@ -37,10 +37,10 @@ impl Model for Watcher {
 }
 
 impl Watcher {
-    /// The watcher on these parts, which keeps what it finds in these lists, and has made no check. `stable` says whether the
-    /// clock is stable. It goes on with what the parts belong to, if they have the tickets of all checks, the lists are empty
-    /// with room for an item of each check and a lift of each CPU, and, where the clock is stable, the parts may stamp and
-    /// demote it.
+    /// The watcher on these parts, which keeps what it finds in these lists, and has made no check. `stable` says
+    /// whether the clock is stable. It goes on with what the parts belong to, if they have the tickets of all checks,
+    /// the lists are empty with room for an item of each check and a lift of each CPU, and, where the clock is stable,
+    /// the parts may stamp and demote it.
     pub fn new(parts: WatchParts, trace: WatchTrace, stable: bool) -> Watcher
         ensures hand { result ≡ record { parts = Some parts; next = 0; stable = stable; trace = trace } }
         ensures begins { Begins parts trace stable result }
@@ -67,8 +67,8 @@ impl Watcher {
         &self.trace
     }
 
-    /// Makes the check of this number, counted from 0, which is its next one. It first passes the gate, which is given no
-    /// reading, and then appends what the check finds.
+    /// Makes the check of this number, counted from 0, which is its next one. It first passes the gate, which is given
+    /// no reading, and then appends what the check finds.
     pub fn check<G: Gate>(&mut self, shared: &Shared, number: u32, gate: &G)
         requires shared { BelongsTo shared.now self.old }
         requires next { number ≡ self.old.next }

@@ -154,7 +154,8 @@ pub by_fresh : (n : ℕ) (xs : List Step) → All (λ s. s.by < n) xs → steps_
 by_fresh n [] h = refl
 by_fresh n (s ∷ xs) h = by_fresh_at n s xs (All-head (λ (t : Step). t.by < n) s xs h) (by_fresh n xs (All-tail (λ (t : Step). t.by < n) s xs h))
 
--- of the steps of a history none is made after those of a beginning that has them all; so it is with any longer beginning
+-- of the steps of a history none is made after those of a beginning that has them all; so it is with any longer
+-- beginning
 pub by_between : (n : ℕ) (front whole history steps : List Step) → Begins front whole → Begins whole history
     → steps_by n front ≡ steps → steps_by n history ≡ steps → steps_by n whole ≡ steps
 by_between n front whole history steps p q mine all =

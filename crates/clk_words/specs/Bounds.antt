@@ -34,7 +34,7 @@ pub record IsLiftValue (opens value : ℤ) : Type 0 where
   pub gtod_range : IsGtod gtod
   pub offset_range : IsOffset opens offset
 
--- its offset is in range by itself
+-- an opening in range; its offset needs no condition, since the words open at the sum of it and the GTOD
 pub record IsOpening (o : Opening) : Type 0 where
   pub gtod : IsGtod o.tick_gtod
   pub raw : IsRaw (opens_of o) o.tick_raw

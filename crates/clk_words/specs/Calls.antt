@@ -39,7 +39,8 @@ pub record Loses (v : View) (word : ℕ) (old found : ℤ) (w : View) : Type 0 w
 abbrev pub KeepsOffset : View → View → Type 0
 KeepsOffset v w = (v.modes.offset ≡ None) ⊎ (v.modes.offset ≡ w.modes.offset)
 
--- two seats as one: what either side had seen begins what is kept, an owner's list is kept as it was, and so is the offset
+-- two seats as one: what either side had seen begins what is kept, an owner's list is kept as it was, and so is the
+-- offset
 pub record Joins (a b w : View) : Type 0 where
   pub view_is : w ≡ together a b
   pub good : IsGood w

@@ -52,7 +52,8 @@ IsInOrder start before (Raise raw tick_raw tick_gtod offset) = AllLifted start b
 IsInOrder start before (Couple from value) = AllLifted start before
 IsInOrder start before (Lift value) = All (λ s. IsTrue (is_lift s.why)) before
 
--- the step may come after these: its word held `old`, and is raised to the target; by signs alone steps could go round
+-- the step may come after these: its word held `old`, and is raised to the target. Its range is said too, as steps
+-- that rise by the sign of a difference alone could go round in a circle
 pub record Follows (start : Start) (before : List Step) (s : Step) : Type 0 where
   pub old_is : s.old ≡ value_after (opens_at start) s.word before
   pub new_is : s.new ≡ raise s.old (target start.tick s.why)

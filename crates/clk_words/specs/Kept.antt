@@ -64,7 +64,8 @@ pub record FitsPairs (chain : ℕ → Chain) (p : PairView) : Type 0 where
   pub raws : (c : ℕ) → has_number p.owns c ≡ true → (part_of p.parts (raw_of c)).after ≡ (chain (raw_of c)).after
   pub told_is : All (λ parts. (r : ℕ) → PartBegins (part_of parts r) (part_of p.parts r)) p.told
 
--- the pair part: each stamp word holds the last of its list, a CPU has as many GTODs as raws or one more, and one writer
+-- the pair part: each stamp word holds the last of its list, a CPU has as many GTODs as raws or one more, and one
+-- writer
 pub record PairPart (cpus : ℕ) (opens : ℤ) (chain : ℕ → Chain) (writer : ℕ → ℕ) (words : List ℕ) (views : List View) : Type 0 where
   pub lasts : (r : ℕ) → r < 2 * cpus → IsBitsOf (last_of (chain r)) (slice_index words (cpus + r))
   pub ahead : (c : ℕ) → length (chain (raw_of c)).after ≤ length (chain (gtod_of c)).after

@@ -20,8 +20,8 @@ use clk_num::{bits_of, raise};
 use std::marker::Brand;
 
 impl Words {
-    /// Stores the offset, in ns, within 2^59 - 2^42 of the words' opening by the sign of the difference. The seat has the
-    /// watchdog's right, and the mode is stable by its view. One store, which takes no memory and does not wait.
+    /// Stores the offset, in ns, within 2^59 - 2^42 of the words' opening by the sign of the difference. The seat has
+    /// the watchdog's right, and the mode is stable by its view. One store, which takes no memory and does not wait.
     pub fn publish_offset(&self, seat: &mut Seat, value: i64)
         requires own { place_of seat.old ≡ self.now }
         requires may { MayDemote seat.old.view }
@@ -36,9 +36,9 @@ impl Words {
             .store::<OffsetStore>(&mut seat.at, word, new);
     }
 
-    /// Stores the GTOD of CPU `w`, 0 to 2^42 ns, which is of its stamp 0 if the mode becomes per-CPU next. The seat has the
-    /// watchdog's right, and the mode is stable by its view; so the offset that it holds, the opening's or its last, is in
-    /// the range that `publish_offset` asks for. One store, which takes no memory and does not wait.
+    /// Stores the GTOD of CPU `w`, 0 to 2^42 ns, which is of its stamp 0 if the mode becomes per-CPU next. The seat has
+    /// the watchdog's right, and the mode is stable by its view; so the offset that it holds, the opening's or its
+    /// last, is in the range that `publish_offset` asks for. One store, which takes no memory and does not wait.
     pub fn clone_gtod(&self, seat: &mut Seat, w: u32, value: i64)
         requires own { place_of seat.old ≡ self.now }
         requires may { MayDemote seat.old.view }
@@ -55,9 +55,9 @@ impl Words {
             .store::<PairStore>(&mut seat.at, word, new);
     }
 
-    /// Stores the raw value of CPU `w`, within 2^59 ns of the words' opening by the sign of the difference. The seat has
-    /// the watchdog's right, and the mode is stable by its view; so the offset that it holds, the opening's or its last, is
-    /// in the range that `publish_offset` asks for. One store, which takes no memory and does not wait.
+    /// Stores the raw value of CPU `w`, within 2^59 ns of the words' opening by the sign of the difference. The seat
+    /// has the watchdog's right, and the mode is stable by its view; so the offset that it holds, the opening's or its
+    /// last, is in the range that `publish_offset` asks for. One store, which takes no memory and does not wait.
     pub fn clone_raw(&self, seat: &mut Seat, w: u32, value: i64)
         requires own { place_of seat.old ≡ self.now }
         requires may { MayDemote seat.old.view }
@@ -74,9 +74,9 @@ impl Words {
             .store::<PairStore>(&mut seat.at, word, new);
     }
 
-    /// Raises the clock word of CPU `w` to `value`, the wrapped sum of a GTOD and an offset in range. `call` is the caller's
-    /// own number, which the step shows. Linux 6.1 stores the word in `__sched_clock_work`. The seat has the watchdog's
-    /// right, and the mode is stable by its view. One fetch_max, which takes no memory and does not wait.
+    /// Raises the clock word of CPU `w` to `value`, the wrapped sum of a GTOD and an offset in range. `call` is the
+    /// caller's own number, which the step shows. Linux 6.1 stores the word in `__sched_clock_work`. The seat has the
+    /// watchdog's right, and the mode is stable by its view. One fetch_max, which takes no memory and does not wait.
     pub fn lift(&self, seat: &mut Seat, call: u32, w: u32, value: i64) -> Step
         requires own { place_of seat.old ≡ self.now }
         requires may { MayDemote seat.old.view }

@@ -63,8 +63,8 @@ impl Words {
         value_of_bits(self.table.shared.load::<OffsetLoad>(&mut seat.at, word))
     }
 
-    /// A look at the mode, as `sched_clock_stable` makes it. Once per-CPU it stays so. One load, which takes no memory and
-    /// does not wait.
+    /// A look at the mode, as `sched_clock_stable` makes it. Once per-CPU it stays so. One load, which takes no memory
+    /// and does not wait.
     pub fn look_mode(&self, seat: &mut Seat) -> Mode
         requires own { place_of seat.old ≡ self.now }
         ensures own { place_of seat.new ≡ self.now }

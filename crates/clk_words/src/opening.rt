@@ -8,8 +8,8 @@ pub enum Mode {
     PerCpu,
 }
 
-/// What the words begin with, in ns. Each clock word begins at `tick_gtod + offset`, which wraps. The names are those of
-/// Linux's `struct sched_clock_data`; `offset` is its `__gtod_offset`.
+/// What the words begin with, in ns. Each clock word begins at `tick_gtod + offset`, which wraps. The names are those
+/// of Linux's `struct sched_clock_data`; `offset` is its `__gtod_offset`.
 #[derive(Clone, Copy, PartialEq, Eq, Debug)]
 pub struct Opening {
     /// Whether the clock begins stable.

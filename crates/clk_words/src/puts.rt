@@ -15,10 +15,11 @@ use crate::view::Name;
 use crate::words::Words;
 
 impl Words {
-    /// Puts `new`, which is `old` raised to the target of `why`, into the clock word of CPU `w`, if that holds `old` still.
-    /// The seat has loaded `old` from that word, and the values that `why` names, a `Raise` or a `Couple`. `call` is the
-    /// caller's own number, which the step shows. `Lost` comes exactly where the word held `found`, another value than
-    /// `old`; then `found` is above `old` and nothing changed. One exchange, which takes no memory and does not wait.
+    /// Puts `new`, which is `old` raised to the target of `why`, into the clock word of CPU `w`, if that holds `old`
+    /// still. The seat has loaded `old` from that word, and the values that `why` names, a `Raise` or a `Couple`.
+    /// `call` is the caller's own number, which the step shows. `Lost` comes exactly where the word held `found`,
+    /// another value than `old`; then `found` is above `old` and nothing changed. One exchange, which takes no memory
+    /// and does not wait.
     pub fn try_put(&self, seat: &mut Seat, call: u32, w: u32, old: i64, new: i64, why: Why) -> Put
         requires own { place_of seat.old ≡ self.now }
         requires found { HasFoundPerCpu seat.old.view }

@@ -16,11 +16,11 @@ use clk_num::{above, raise, target_local};
 use std::marker::Brand;
 
 impl Words {
-    /// Raises the clock word of CPU `w` to the target of `why`, a `Raise` or a `Couple` whose values the seat has loaded.
-    /// `call` is the caller's own number, which the step shows. `old` is what the word held, and the step stands in the
-    /// history, also where it leaves the word as it was. It does what the exchange of `sched_clock_local` and
-    /// `sched_clock_remote` of Linux 6.1 does once it succeeds, and never fails. One fetch_max, which takes no memory and
-    /// does not wait.
+    /// Raises the clock word of CPU `w` to the target of `why`, a `Raise` or a `Couple` whose values the seat has
+    /// loaded. `call` is the caller's own number, which the step shows. `old` is what the word held, and the step
+    /// stands in the history, also where it leaves the word as it was. It does what the exchange of `sched_clock_local`
+    /// and `sched_clock_remote` of Linux 6.1 does once it succeeds, and never fails. One fetch_max, which takes no
+    /// memory and does not wait.
     pub fn raise(&self, seat: &mut Seat, call: u32, w: u32, why: Why) -> Step
         requires own { place_of seat.old ≡ self.now }
         requires found { HasFoundPerCpu seat.old.view }

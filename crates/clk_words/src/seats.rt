@@ -13,9 +13,9 @@ use crate::words::Words;
 use std::marker::Brand;
 
 impl Words {
-    /// A new seat of this kind, with the next number. `seat` is the first one or was joined with it, and has the right to
-    /// the kind: each `Owner` and `Watch` are given once. The kind's CPU is one of the words', and fewer than 2^32 - 1
-    /// seats were made. The new seat has seen what `seat` has. One load, which takes no memory and does not wait.
+    /// A new seat of this kind, with the next number. `seat` is the first one or was joined with it, and has the right
+    /// to the kind: each `Owner` and `Watch` are given once. The kind's CPU is one of the words', and fewer than 2^32 -
+    /// 1 seats were made. The new seat has seen what `seat` has. One load, which takes no memory and does not wait.
     pub fn split(&self, seat: &mut Seat, kind: SeatKind) -> Seat
         requires own { place_of seat.old ≡ self.now }
         requires right { MaySplit seat.old.view kind }
@@ -47,8 +47,8 @@ impl Words {
         }
     }
 
-    /// One seat in place of two: it shows the number, the CPU and the kind of `a`, and has the rights and the own lists of
-    /// both. What either has seen begins what it has seen. Two loads, which take no memory and do not wait.
+    /// One seat in place of two: it shows the number, the CPU and the kind of `a`, and has the rights and the own lists
+    /// of both. What either has seen begins what it has seen. Two loads, which take no memory and do not wait.
     pub fn join(&self, mut a: Seat, b: Seat) -> Seat
         requires first { place_of a ≡ self.now }
         requires second { place_of b ≡ self.now }

@@ -14,8 +14,8 @@ use crate::words::Words;
 use clk_num::bits_of;
 
 impl Words {
-    /// Stores the GTOD of a new stamp, 0 to 2^42 ns. As many raws as GTODs follow stamp 0 by the seat's view. One store,
-    /// which takes no memory and does not wait.
+    /// Stores the GTOD of a new stamp, 0 to 2^42 ns. As many raws as GTODs follow stamp 0 by the seat's view. One
+    /// store, which takes no memory and does not wait.
     pub fn stamp_gtod(&self, seat: &mut Seat, value: i64)
         requires own { place_of seat.old ≡ self.now }
         requires found { HasFoundPerCpu seat.old.view }
@@ -33,8 +33,8 @@ impl Words {
             .store::<GtodStore>(&mut seat.at, word, new);
     }
 
-    /// Stores the raw value of a new stamp, within 2^59 ns of the words' opening by the sign of the difference. One GTOD
-    /// more than raws follows stamp 0 by the seat's view. One store, which takes no memory and does not wait.
+    /// Stores the raw value of a new stamp, within 2^59 ns of the words' opening by the sign of the difference. One
+    /// GTOD more than raws follows stamp 0 by the seat's view. One store, which takes no memory and does not wait.
     pub fn stamp_raw(&self, seat: &mut Seat, value: i64)
         requires own { place_of seat.old ≡ self.now }
         requires found { HasFoundPerCpu seat.old.view }

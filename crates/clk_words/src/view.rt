@@ -38,9 +38,9 @@ pub struct PairView {
 }
 
 /// What a seat knows of the mode: its looks at it, whether it has found it per-CPU, the offset if it has seen that, and
-/// whether it has the watchdog's right. `held` and `cloned` are what the watchdog has stored: the offset that stands, and
-/// of each stamp word the last value. That may go stale while the mode is stable, so only the seat with the right has it.
-/// `told` is what each side of a join had seen of the offset, until the next load.
+/// whether it has the watchdog's right. `held` and `cloned` are what the watchdog has stored: the offset that stands,
+/// and of each stamp word the last value. That may go stale while the mode is stable, so only the seat with the right
+/// has it. `told` is what each side of a join had seen of the offset, until the next load.
 pub struct ModeView {
     pub looks: LinkedList<Mode>,
     pub found: bool,

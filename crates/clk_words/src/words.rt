@@ -45,9 +45,9 @@ impl Model for Words {
 
 impl Words {
     /// The words of `cpus` CPUs, at least one, for ticks of `tick` ns, 1 to 2^30. Each clock word begins at
-    /// `tick_gtod + offset` of `start`, which wraps. The first seat has number 0, shows the kind `Reader(0)`, and holds the
-    /// right to split and to give every kind. In a stable start it has seen neither a pair nor the offset, which the watchdog
-    /// may change. The error is want of memory.
+    /// `tick_gtod + offset` of `start`, which wraps. The first seat has number 0, shows the kind `Reader(0)`, and holds
+    /// the right to split and to give every kind. In a stable start it has seen neither a pair nor the offset, which
+    /// the watchdog may change. The error is want of memory.
     pub fn new(
         alloc: Global,
         cpus: u32,
@@ -82,8 +82,8 @@ impl Words {
         Ok((words, seat))
     }
 
-    /// The words at the end, with their whole history. The seat has the own list of every seat that was made. It takes no
-    /// memory and does not wait.
+    /// The words at the end, with their whole history. The seat has the own list of every seat that was made. It takes
+    /// no memory and does not wait.
     pub fn finish(self, seat: Seat) -> Closed
         requires own { place_of seat ≡ self }
         requires all { HasAll seat.view }

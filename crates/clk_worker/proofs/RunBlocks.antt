@@ -1,4 +1,5 @@
--- The tickets of a run: its time seat gains the blocks of its events; a coupling and a tick of the stable clock draw none.
+-- The tickets of a run: its time seat gains the blocks of its events; a coupling and a tick of the stable clock draw
+-- none.
 use Rattle.std.proofs.Common.{◌≡◌, List, [], ◌∷◌, ◌++◌, ap, ◌∙◌, sym, append_assoc, append-nil}
 use Rattle.std.specs.List.{flat_map}
 use Rattle.clk_base.specs.declared.block.Block.{Block}

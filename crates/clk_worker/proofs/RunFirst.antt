@@ -1,5 +1,5 @@
--- What the first seat of the clock words has, after it has given others before any step: the n-th that it gives gets the
--- number n, and knows of the pairs and of the mode what the first seat knew at first.
+-- What the first seat of the clock words has, after it has given others before any step: the n-th that it gives gets
+-- the number n, and knows of the pairs and of the mode what the first seat knew at first.
 use Rattle.std.proofs.Common.{◌≡◌, ℕ, ◌+◌, [], refl, ap}
 use Rattle.clk_words.specs.declared.opening.Start.{Start}
 use Rattle.clk_words.specs.declared.kind.SeatKind.{SeatKind}

@@ -1,5 +1,5 @@
--- The history of the words at their end has just the steps of all threads: so the lines of each word are a legal history, and
--- each coupling names a value that the other word held and that some word got otherwise.
+-- The history of the words at their end has just the steps of all threads: so the lines of each word are a legal
+-- history, and each coupling names a value that the other word held and that some word got otherwise.
 use Rattle.std.proofs.Common.{◌≡◌, ℕ, ◌+◌, ℤ, ◌<ℤ◌, ◌⊎◌, inl, inr, Bool, List, [], ◌∷◌, ◌++◌, map, filter, nat_eq, Contains, refl, ap, ◌∙◌, sym, subst, arith}
 use Rattle.std.proofs.lemmas.Int.{ints}
 use Rattle.std.specs.List.{All, sum_by}

@@ -1,5 +1,5 @@
--- What no event of a run changes: the seat at the clock words shows the same number and kind, and belongs to the same words;
--- and what only grows: its own steps, and the history that it has seen.
+-- What no event of a run changes: the seat at the clock words shows the same number and kind, and belongs to the same
+-- words; and what only grows: its own steps, and the history that it has seen.
 use Rattle.std.proofs.Common.{◌≡◌, ℕ, ℤ, List, [], ◌∷◌, ◌++◌, ap, ◌∙◌, sym, subst, append_assoc}
 use Rattle.clk_words.specs.declared.opening.Start.{Start}
 use Rattle.clk_words.specs.declared.kind.SeatKind.{SeatKind}

@@ -1,5 +1,5 @@
--- Where the words stood when per-CPU readings began: at their opening, or as a lift left them. Lifts come before all other
--- steps, so a thread that made a step has seen them all, and no word stands below where a lift left it.
+-- Where the words stood when per-CPU readings began: at their opening, or as a lift left them. Lifts come before all
+-- other steps, so a thread that made a step has seen them all, and no word stands below where a lift left it.
 use Rattle.std.proofs.Common.{◌≡◌, ℕ, zero, suc, ◌<◌, ◌==◌, ℤ, Bool, true, false, cond, ◌⊎◌, inl, inr, List, [], ◌∷◌, ◌++◌, length, get_or, Contains, IsTrue, refl, ap, ◌∙◌, sym, subst, arith, append_assoc, eqb-true}
 use Rattle.std.specs.List.{All}
 use Rattle.std.proofs.lemmas.List.Elements.{All-nil, All-cons, All-head, All-tail, All-contains, Contains-append_left, Contains-append_right, Contains-append_cases}

@@ -1,5 +1,5 @@
--- The lifts of a watchdog, placed under its thread's number as a trace's steps are: what the fields of a lawful trace ask of
--- them.
+-- The lifts of a watchdog, placed under its thread's number as a trace's steps are: what the fields of a lawful trace
+-- ask of them.
 use Rattle.std.proofs.Common.{◌≡◌, ℕ, ◌+◌, true, List, [], ◌∷◌, map, Contains, refl, ap, ◌∙◌, sym, subst}
 use Rattle.std.specs.List.{All}
 use Rattle.std.proofs.lemmas.List.Elements.{All-nil, All-cons, All-head, All-tail}

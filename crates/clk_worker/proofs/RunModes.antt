@@ -52,7 +52,8 @@ stable_mode PerCpuMode e = absurd (cc)
 
 -- ---- modes
 
--- the modes of a run, and the offset of its stable readings, are those of its start and of what this thread found at the end
+-- the modes of a run, and the offset of its stable readings, are those of its start and of what this thread found at
+-- the end
 pub record AgreesOnModes (z : Site) (start : Start) (w : Known) (m : Modes) (offset : ℤ) : Type 0 where
   pub stable : start.opening.mode ≡ StableMode → (m.stable ≡ true) × (offset ≡ z.sched_offset)
   pub percpu : w.view.modes.found ≡ true → m.percpu ≡ true

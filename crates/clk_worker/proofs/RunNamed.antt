@@ -1,5 +1,5 @@
--- What the couplings of a run name: a value that the other word held, by any history that goes on from what the thread saw.
--- And which words the events of a run step on: those of its CPUs.
+-- What the couplings of a run name: a value that the other word held, by any history that goes on from what the thread
+-- saw. And which words the events of a run step on: those of its CPUs.
 use Rattle.std.proofs.Common.{◌≡◌, ℕ, ◌+◌, ◌<◌, ℤ, Bool, true, false, cond, List, [], ◌∷◌, ◌++◌, ap, ◌∙◌, sym, subst}
 use Rattle.std.specs.List.{All}
 use Rattle.std.proofs.lemmas.List.Elements.{All-nil, All-cons, All-head, All-tail}

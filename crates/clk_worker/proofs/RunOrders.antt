@@ -1,5 +1,5 @@
--- Lists of which every sum is the same have the same elements: so the steps of all threads can be put in the order of the
--- history of the words. What must be decided for that is whether two steps are one.
+-- Lists of which every sum is the same have the same elements: so the steps of all threads can be put in the order of
+-- the history of the words. What must be decided for that is whether two steps are one.
 use Rattle.std.proofs.Common.{◌≡◌, ℕ, ◌+◌, ◌<◌, ℤ, Bool, true, false, ◌&&◌, cond, List, [], ◌∷◌, ◌++◌, map, filter, nat_eq, Decides, refl, ap, ◌∙◌, sym, subst, arith, eq-eqb}
 use Rattle.std.specs.List.{sum_by}
 use Rattle.std.specs.List.Sorted.{IsPermutation}

@@ -1,5 +1,5 @@
--- Each reading of an owner names the pair of its last stamp, as its view of the clock words tells; before its first stamp that
--- is the pair of stamp 0.
+-- Each reading of an owner names the pair of its last stamp, as its view of the clock words tells; before its first
+-- stamp that is the pair of stamp 0.
 use Rattle.std.proofs.Common.{◌≡◌, ◌≢◌, ℕ, zero, suc, ◌<◌, ℤ, true, List, [], ◌∷◌, ◌++◌, Some, ap, ◌∙◌, sym, subst, refl, arith, append-nil, eq-eqb}
 use Rattle.clk_base.specs.Walk.{Along}
 use Rattle.clk_words.specs.declared.opening.Opening.{Opening}

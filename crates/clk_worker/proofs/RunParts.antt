@@ -1,5 +1,5 @@
--- What a thread knows of the stamps and of the offset it knows to the end of a run: stamp 0 of a register and the offset
--- stay once they are known, and the list of the values after stamp 0 only grows.
+-- What a thread knows of the stamps and of the offset it knows to the end of a run: stamp 0 of a register and the
+-- offset stay once they are known, and the list of the values after stamp 0 only grows.
 use Rattle.std.proofs.Common.{◌≡◌, ◌≢◌, ℕ, ℤ, ◌⊎◌, inl, inr, List, [], ◌∷◌, ◌++◌, Option, Some, None, refl, ap, ◌∙◌, sym, subst}
 use mathlib.Core.Logic.{dite}
 use native.Mathlib.Decide.{ℕ_discrete}

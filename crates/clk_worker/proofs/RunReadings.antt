@@ -1,5 +1,5 @@
--- The readings of a run are right: each goes by a record that its thread knows, none older than before; the latch's owner
--- reads by the last of its own records.
+-- The readings of a run are right: each goes by a record that its thread knows, none older than before; the latch's
+-- owner reads by the last of its own records.
 use Rattle.std.proofs.Common.{◌≡◌, ℕ, ◌+◌, ◌<◌, ℤ, true, List, [], ◌∷◌, ◌++◌, length, ap, ◌∙◌, sym, subst, arith, length-append, append_assoc, append-nil}
 use Rattle.std.specs.List.{All}
 use Rattle.std.proofs.lemmas.List.Elements.{All-nil, All-cons}

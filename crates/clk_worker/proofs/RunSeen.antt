@@ -1,6 +1,6 @@
--- No reading of a run falls below what its thread had seen: the highest value that was seen of a word, or where the word stood
--- at first, is not higher than what the thread's view shows of it. That holds from the thread's first step on, by when it has
--- seen all lifts.
+-- No reading of a run falls below what its thread had seen: the highest value that was seen of a word, or where the
+-- word stood at first, is not higher than what the thread's view shows of it. That holds from the thread's first step
+-- on, by when it has seen all lifts.
 use Rattle.std.proofs.Common.{◌≡◌, ℕ, ◌^◌, ◌==◌, ℤ, pos, ◌≤ℤ◌, ◌⊎◌, inl, inr, Bool, true, false, cond, List, [], ◌∷◌, ◌++◌, refl, sym, ap, ◌∙◌, subst, arith, append_assoc, append-nil, eq-eqb, ne_eqb}
 use Rattle.std.proofs.lemmas.Int.{ints}
 use Rattle.std.proofs.lemmas.Grind.{flat_map-append}
@@ -23,7 +23,7 @@ use Rattle.clk_machine.specs.declared.reading.RawReading.{RawReading}
 use Rattle.clk_local.specs.Context.{Site, Known}
 use Rattle.clk_local.specs.Raising.{shown_on}
 use Rattle.clk_local.specs.Shows.{ShowsRaised}
-use Rattle.clk_trace.specs.SeenBefore.{Seen, seen_at, higher, seen_of, shown_by_kind, IsAboveSeen, NeverFalls}
+use Rattle.clk_trace.specs.SeenBefore.{Seen, seen_at, higher, seen_of, shown_by_kind, IsFoundAbove, IsAboveSeen, NeverFalls}
 use Rattle.clk_trace.specs.declared.event.Event.{Event}
 use Rattle.clk_trace.specs.declared.event.EventKind.{EventKind}
 use Rattle.clk_trace.specs.declared.event.EventKind.TheVariants.{Stable, Local, Couple, Stamp, Nothing, Update, Pause}
@@ -41,15 +41,19 @@ pub record Sees (opening seen word : ℤ) : Type 0 where
   pub high : above word opening ≤ℤ pos (2 ^ 60)
 
 -- and so what is not below the word is not below it
-sees_over : (opening seen word x : ℤ) → Sees opening seen word → IsClock opening x → IsNotBelow x word → IsNotBelow x seen
+sees_over : (opening seen word x : ℤ) → Sees opening seen word → IsClock opening x → IsNotBelow x word → IsFoundAbove opening seen x
 sees_over opening seen word x s range over =
     let low = s.low in
     let under = s.under in
     let high = s.high in
     let (_, x_low, x_high) = range in
     let apart = above_is opening word seen (omega (arith, ints), omega (arith, ints)) (omega (arith, ints), omega (arith, ints)) in
-    not_below_after opening seen word x (omega (arith, ints), omega (arith, ints)) (omega (arith, ints), omega (arith, ints))
-    (omega (arith, ints), omega (arith, ints)) (omega (arith, ints, apart)) over
+    record {
+      over_opening = x_low;
+      over_seen =
+          not_below_after opening seen word x (omega (arith, ints), omega (arith, ints)) (omega (arith, ints), omega (arith, ints))
+          (omega (arith, ints), omega (arith, ints)) (omega (arith, ints, apart)) over;
+    }
 
 -- of one value more the higher one is as high as the word at most
 sees_higher : (opening seen x word : ℤ) (t : Bool) → Sees opening seen word → pos 0 ≤ℤ above x opening → above x opening ≤ℤ above word opening → Sees opening (cond t x seen) word
@@ -139,7 +143,7 @@ shown_is start v word e = ap (λ (o : Start). value_after (opens_at o) word v.se
 
 -- what was found is not below what the view shows of its word, and so not below what was seen
 over_seen : (start : Start) (base : ℕ → ℤ) (seen : List Seen) (u v : View) (word : ℕ) (x : ℤ) → u.start ≡ start → v.start ≡ start → SeesAll start base seen v.seen
-    → IsClock (opens_at u.start) x → IsNotBelow x (shown_on word v) → IsNotBelow x (seen_of (opens_at start) base word seen)
+    → IsClock (opens_at u.start) x → IsNotBelow x (shown_on word v) → IsFoundAbove (opens_at start) (seen_of (opens_at start) base word seen) x
 over_seen start base seen u v word x a b all range over =
     sees_over (opens_at start) (seen_of (opens_at start) base word seen) (value_after (opens_at start) word v.seen) x (all word)
     (subst (λ (o : Start). IsClock (opens_at o) x) a range) (subst (IsNotBelow x) (shown_is start v word b) over)
@@ -161,12 +165,12 @@ seen_on z start number base seen v k w home h good all =
 
 -- the word is not below itself, and so not below what was seen of it
 sees_word : (start : Start) (base : ℕ → ℤ) (seen : List Seen) (history : List Step) (word : ℕ) (x : ℤ) → IsGlobalHistory start history → SeesAll start base seen history
-    → x ≡ value_after (opens_at start) word history → IsNotBelow x (seen_of (opens_at start) base word seen)
+    → x ≡ value_after (opens_at start) word history → IsFoundAbove (opens_at start) (seen_of (opens_at start) base word seen) x
 sees_word start base seen history word x legal all is =
     let o = opens_at start in
     let value : ℤ = value_after o word history in
     let same = above_same value in
-    subst (λ y. IsNotBelow y (seen_of o base word seen)) (sym is)
+    subst (IsFoundAbove o (seen_of o base word seen)) (sym is)
     (sees_over o (seen_of o base word seen) value value (all word) (legal_range start history legal word) (omega (arith, ints, same)))
 
 -- what a reading had loaded before its step is the history that its view showed
@@ -197,10 +201,10 @@ local_seen z start number base seen v w raw tick_raw tick_gtod offset old new ho
     ∙ ap (λ (x : Start). value_after (opens_at x) h.step.word (h.raised.loaded.seen ++ between)) loaded_start
     ∙ ap (λ k. value_after o k (h.raised.loaded.seen ++ between)) word_is
     ∙ ap (λ (zs : List Step). value_after o z.cpu (zs ++ between)) (loaded_seen z v w raw h.step h.raised) in
-    let over : IsNotBelow h.step.old (seen_of o base z.cpu seen) = sees_word start base seen mid z.cpu h.step.old legal_mid all held in
+    let over : IsFoundAbove o (seen_of o base z.cpu seen) h.step.old = sees_word start base seen mid z.cpu h.step.old legal_mid all held in
     let had : HadValue start w.view.seen z.cpu new =
     subst (λ k. HadValue start w.view.seen k new) word_is (subst (HadValue start w.view.seen h.step.word) h.new_is (step_shown start h.raised.loaded w.view h.step h.raised.raises)) in (
-      subst (λ x. IsNotBelow x (seen_of o base z.cpu seen)) h.old_is over,
+      subst (IsFoundAbove o (seen_of o base z.cpu seen)) h.old_is over,
       sees_added start base seen w.view.seen z.cpu new legal had (sees_later start base seen mid w.view.seen to_end legal all),
     )
 

@@ -1,5 +1,5 @@
--- Each reading of a run names stamps of its CPU that its thread knew then: neither half goes back, and the GTOD is not older
--- than the raw clock. So the least stamps by which a list of them can be named in order are there.
+-- Each reading of a run names stamps of its CPU that its thread knew then: neither half goes back, and the GTOD is not
+-- older than the raw clock. So the least stamps by which a list of them can be named in order are there.
 use Rattle.std.proofs.Common.{◌≡◌, ◌≢◌, ℕ, ◌+◌, ◌≤◌, max, ℤ, Bool, true, false, cond, inr, List, [], ◌∷◌, ◌++◌, length, map, Option, Some, is_some, option_map, option_and_then, refl, ap, ◌∙◌, sym, subst, arith, append_assoc, append-nil, le-leb}
 use Rattle.std.specs.List.{flat_map}
 use Rattle.std.specs.Prelude.{nat_le, unwrap_or, ◌&&◌}

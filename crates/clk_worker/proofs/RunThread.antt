@@ -1,5 +1,5 @@
--- All that the events of a thread show, run from fresh seats: the parts of a lawful trace that are the thread's own; and what
--- those of a CPU's own thread show besides. The clock may begin stable or per-CPU.
+-- All that the events of a thread show, run from fresh seats: the parts of a lawful trace that are the thread's own;
+-- and what those of a CPU's own thread show besides. The clock may begin stable or per-CPU.
 use Rattle.std.proofs.Common.{◌≡◌, ℕ, ◌+◌, ◌<◌, ℤ, true, false, cond, List, [], ◌∷◌, ◌++◌, map, length, Some, None, refl, ap, ◌∙◌, arith}
 use Rattle.std.specs.List.{All, flat_map}
 use Rattle.clk_base.specs.Walk.{Along}
@@ -150,7 +150,8 @@ has_run z start thread v es w f r =
 
 -- ---- a CPU's own thread
 
--- it has all records and all stamps of its CPU, and goes by the last of them; by the pair that may be stamp 0's before any
+-- it has all records and all stamps of its CPU, and goes by the last of them; by the pair that may be stamp 0's before
+-- any
 pub record OwnerHasRun (z : Site) (start : Start) (es : List Event) (w : Known) : Type 0 where
   pub records : records_in w ≡ record_zero z.machine ∷ updates_of es
   pub owned : Along (λ r e. OwnsRecords z.machine z.cpu z.adjust r e.kind) (λ r e. record_after r e.kind) (record_zero z.machine) es

@@ -1,5 +1,6 @@
--- A thread that made an event of a per-CPU clock, as its script calls for them, has made a reading of its own clock, and so a
--- step; where the clock began stable, a step comes after a lift of each word. So where no word was lifted, no event is per-CPU.
+-- A thread that made an event of a per-CPU clock, as its script calls for them, has made a reading of its own clock,
+-- and so a step; where the clock began stable, a step comes after a lift of each word. So where no word was lifted, no
+-- event is per-CPU.
 use Rattle.std.proofs.Common.{◌≡◌, ℕ, ◌+◌, ◌<◌, ◌==◌, ℤ, Bool, true, false, ◌||◌, ◌&&◌, inl, inr, List, [], ◌∷◌, ◌++◌, Contains, MatchBool, nat_eq, refl, ap, ◌∙◌, sym, subst, arith, append_assoc}
 use Rattle.std.proofs.lemmas.List.Elements.{Contains-append_left, Contains-append_right}
 use Rattle.clk_words.specs.declared.opening.Mode.{Mode}
@@ -19,7 +20,7 @@ use Rattle.clk_machine.specs.Plan.{count_of}
 use Rattle.clk_machine.specs.declared.script.Word.{Word}
 use Rattle.clk_machine.specs.declared.script.Word.TheVariants as word
 use Rattle.clk_local.specs.Context.{Site, Known}
-use Rattle.clk_trace.specs.Modes.{Modes, IsOfMode, turned_after}
+use Rattle.clk_trace.specs.Modes.{shows_percpu, reads_percpu, Modes, IsOfMode, turned_after}
 use Rattle.clk_trace.specs.ScriptEvents.{IsReading, IsRemoteReading, IsTick, IsIdle, IsUpdate, IsPause, Calls, events_at, AreEventsOf}
 use Rattle.clk_trace.specs.declared.event.Event.{Event}
 use Rattle.clk_trace.specs.declared.event.EventKind.{EventKind}
@@ -31,32 +32,13 @@ use Rattle.clk_worker.proofs.Showing.{raised_passed}
 
 -- ---- what a script calls for
 
--- an event of a per-CPU clock, and a reading of the own one
-abbrev of_percpu : EventKind → Bool
-of_percpu (Stable raw value) = false
-of_percpu (Local raw tick_raw tick_gtod offset old new) = true
-of_percpu (Couple cpu own other word old new) = true
-of_percpu (Stamp gtod_ticket gtod raw) = true
-of_percpu Nothing = false
-of_percpu (Update p) = false
-of_percpu (Pause ticket count) = false
-
-abbrev is_local : EventKind → Bool
-is_local (Stable raw value) = false
-is_local (Local raw tick_raw tick_gtod offset old new) = true
-is_local (Couple cpu own other word old new) = false
-is_local (Stamp gtod_ticket gtod raw) = false
-is_local Nothing = false
-is_local (Update p) = false
-is_local (Pause ticket count) = false
-
 abbrev any_kind : (EventKind → Bool) → List EventKind → Bool
 any_kind test [] = false
 any_kind test (k ∷ ks) = test k || any_kind test ks
 
 -- with the first there is the second
 abbrev HasLocal : List EventKind → Type 0
-HasLocal ks = any_kind of_percpu ks ≡ true → any_kind is_local ks ≡ true
+HasLocal ks = any_kind shows_percpu ks ≡ true → any_kind reads_percpu ks ≡ true
 
 never : {A : Type 0} → false ≡ true → A
 never e = absurd (cc)
@@ -167,18 +149,18 @@ any_at : (test : EventKind → Bool) (m : ℕ) (ks : List EventKind) (rest : Lis
 any_at test m [] rest = refl
 any_at test m (k ∷ ks) rest = ap (λ (b : Bool). test k || b) (any_at test m ks rest) ∙ or_assoc (test k) (any_kind test ks) (any_event test rest)
 
-script_local : (cpu m : ℕ) (ws : List Word) (es : List Event) → AreEventsOf cpu m ws es → any_event of_percpu es ≡ true → any_event is_local es ≡ true
-script_local cpu m [] es a e = never (sym (ap (any_event of_percpu) a) ∙ e)
+script_local : (cpu m : ℕ) (ws : List Word) (es : List Event) → AreEventsOf cpu m ws es → any_event shows_percpu es ≡ true → any_event reads_percpu es ≡ true
+script_local cpu m [] es a e = never (sym (ap (any_event shows_percpu) a) ∙ e)
 script_local cpu m (w ∷ ws) es a e =
     let ks : List EventKind = a.0 in
     let rest : List Event = a.1 in
-    let whole : (any_kind of_percpu ks || any_event of_percpu rest) ≡ true = sym (ap (any_event of_percpu) a.2 ∙ any_at of_percpu m ks rest) ∙ e in
-    let found : (any_kind is_local ks || any_event is_local rest) ≡ true =
-    elim (or_cases (any_kind of_percpu ks) (any_event of_percpu rest) whole) [
-      | inl here ↦ or_left (any_kind is_local ks) (any_event is_local rest) (called_local cpu w ks a.3 here)
-      | inr later ↦ or_right (any_kind is_local ks) (any_event is_local rest) (script_local cpu (m + 1) ws rest a.4 later)
+    let whole : (any_kind shows_percpu ks || any_event shows_percpu rest) ≡ true = sym (ap (any_event shows_percpu) a.2 ∙ any_at shows_percpu m ks rest) ∙ e in
+    let found : (any_kind reads_percpu ks || any_event reads_percpu rest) ≡ true =
+    elim (or_cases (any_kind shows_percpu ks) (any_event shows_percpu rest) whole) [
+      | inl here ↦ or_left (any_kind reads_percpu ks) (any_event reads_percpu rest) (called_local cpu w ks a.3 here)
+      | inr later ↦ or_right (any_kind reads_percpu ks) (any_event reads_percpu rest) (script_local cpu (m + 1) ws rest a.4 later)
     ] in
-    ap (any_event is_local) a.2 ∙ any_at is_local m ks rest ∙ found
+    ap (any_event reads_percpu) a.2 ∙ any_at reads_percpu m ks rest ∙ found
 
 -- ---- the thread has made a step
 
@@ -192,7 +174,7 @@ passed_later front whole begins p =
       passes = p.passes;
     }
 
-shows_passed : (z : Site) (v : Known) (k : EventKind) (w : Known) → Shows z v k w → is_local k ≡ true → HasPassed w.view.seen
+shows_passed : (z : Site) (v : Known) (k : EventKind) (w : Known) → Shows z v k w → reads_percpu k ≡ true → HasPassed w.view.seen
 shows_passed z v (Stable raw value) w h e = never e
 shows_passed z v (Local raw tick_raw tick_gtod offset old new) w h e = raised_passed z v w raw h.step h.raised
 shows_passed z v (Couple asked own other word old new) w h e = never e
@@ -201,10 +183,10 @@ shows_passed z v Nothing w h e = never e
 shows_passed z v (Update p) w h e = never e
 shows_passed z v (Pause ticket count) w h e = never e
 
-runs_passed : (z : Site) (v : Known) (es : List Event) (w : Known) → Runs z v es w → any_event is_local es ≡ true → HasPassed w.view.seen
+runs_passed : (z : Site) (v : Known) (es : List Event) (w : Known) → Runs z v es w → any_event reads_percpu es ≡ true → HasPassed w.view.seen
 runs_passed z v [] w r e = never e
 runs_passed z v (e ∷ es) w r found =
-    elim (or_cases (is_local e.kind) (any_event is_local es) found) [
+    elim (or_cases (reads_percpu e.kind) (any_event reads_percpu es) found) [
       | inl here ↦ passed_later r.1.view.seen w.view.seen (runs_grows z r.1 es w r.4).seen (shows_passed (at_call z e.call) r.0 e.kind r.1 r.3 here)
       | inr later ↦ runs_passed z r.1 es w r.4 later
     ]
@@ -260,7 +242,7 @@ abbrev with_percpu : Bool → Modes → Modes
 with_percpu percpu m = record { stable = m.stable; percpu = percpu }
 
 kind_again : (m : Modes) (percpu : Bool) (offset : ℤ) (turned : Bool) (k : EventKind) → IsOfMode (with_percpu percpu m) offset turned k
-    → (of_percpu k ≡ true → m.percpu ≡ true) → IsOfMode m offset turned k
+    → (shows_percpu k ≡ true → m.percpu ≡ true) → IsOfMode m offset turned k
 kind_again m percpu offset turned (Stable raw value) h on = h
 kind_again m percpu offset turned (Local raw tick_raw tick_gtod shown old new) h on = on refl
 kind_again m percpu offset turned (Couple cpu own other word old new) h on = on refl
@@ -270,11 +252,11 @@ kind_again m percpu offset turned (Update p) h on = tt
 kind_again m percpu offset turned (Pause ticket count) h on = tt
 
 modes_again : (m : Modes) (percpu : Bool) (offset : ℤ) (turned : Bool) (es : List Event) → AreOfMode (with_percpu percpu m) offset turned es
-    → (any_event of_percpu es ≡ true → m.percpu ≡ true) → AreOfMode m offset turned es
+    → (any_event shows_percpu es ≡ true → m.percpu ≡ true) → AreOfMode m offset turned es
 modes_again m percpu offset turned [] h on = tt
 modes_again m percpu offset turned (e ∷ es) h on = (
-  kind_again m percpu offset turned e.kind h.0 (λ f. on (or_left (of_percpu e.kind) (any_event of_percpu es) f)),
-  modes_again m percpu offset (turned_after turned e.kind) es h.1 (λ f. on (or_right (of_percpu e.kind) (any_event of_percpu es) f)),
+  kind_again m percpu offset turned e.kind h.0 (λ f. on (or_left (shows_percpu e.kind) (any_event shows_percpu es) f)),
+  modes_again m percpu offset (turned_after turned e.kind) es h.1 (λ f. on (or_right (shows_percpu e.kind) (any_event shows_percpu es) f)),
 )
 
 -- the events of a script, made by a seat that knows of the mode what the first seat knew, stand in the modes of the run
@@ -286,7 +268,7 @@ modes_made z start v es w m offset call ws history low first r script begins leg
     (runs_mode z start v es w (with_percpu w.view.modes.found m) offset first r (record { stable = modes.stable; percpu = λ e. e }))
     (λ e. by_mode start.opening.mode refl e)
   where
-    by_mode : (mode : Mode) → start.opening.mode ≡ mode → any_event of_percpu es ≡ true → m.percpu ≡ true
+    by_mode : (mode : Mode) → start.opening.mode ≡ mode → any_event shows_percpu es ≡ true → m.percpu ≡ true
     by_mode StableMode is e =
         modes.lifted is
         (passed_lift start w.view.seen history z.cpu is low legal begins (runs_passed z v es w r (script_local z.cpu call ws es script e)))

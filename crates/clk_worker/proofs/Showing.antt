@@ -108,7 +108,8 @@ raised_passed z v w raw step h =
 
 -- ---- events
 
--- events of these kinds took the seats from v to w, by so many tickets at most, and the seats stay sound, and an owner's
+-- events of these kinds took the seats from v to w, by so many tickets at most, and the seats stay sound, and an
+-- owner's
 pub record Showed (z : Site) (share call tickets : ℕ) (kinds : List EventKind) (v w : Known) : Type 0 where
   pub runs : Runs z v (events_at call kinds) w
   pub spends : Spends tickets 0 v w

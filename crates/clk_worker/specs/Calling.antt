@@ -97,8 +97,8 @@ pub record Spends (tickets updates : ℕ) (v w : Known) : Type 0 where
 abbrev pub updates_in : Word → ℕ
 updates_in word = if is_update word then 1 else 0
 
--- a context and the events that were kept make this word: the events that it calls for, three at most, which took the seats
--- on, within the word's tickets and updates; what owned its CPU's clock owns it after
+-- a context and the events that were kept make this word: the events that it calls for, three at most, which took the
+-- seats on, within the word's tickets and updates; what owned its CPU's clock owns it after
 pub record Makes (word : Word) (v : Context) (a : Listed Event) (w : Context) (b : Listed Event) : Type 0 where
   pub kinds : List EventKind
   pub calls : Calls v.counter.cpu word kinds

@@ -33,8 +33,8 @@ pub record IsSound (z : Site) (share : ℕ) (v : Known) : Type 0 where
   pub share_is : share_of v.time ≡ share
   pub rises : Rises v.time.blocks
 
--- those of a CPU's own thread own its clock besides: they may stamp, and the latch's is the owner's, with the records of the
--- CPU, of which each after record 0 has a ticket of this thread
+-- those of a CPU's own thread own its clock besides: they may stamp, and the latch's is the owner's, with the records
+-- of the CPU, of which each after record 0 has a ticket of this thread
 pub record OwnsClock (z : Site) (v : Known) : Type 0 where
   pub may_stamp : MayStamp v.view
   pub owner : v.epoch.owner ≡ true

@@ -37,10 +37,10 @@ impl Model for Worker {
 }
 
 impl Worker {
-    /// The worker of a thread at this post on these seats, which keeps its events in this list, and has made no word. It goes
-    /// on with what the seats belong to, if they are the owner's of its CPU where the thread is the CPU's own, and a reader's
-    /// there otherwise, and have the tickets and the updates of the thread's script, and the list is empty with room for three
-    /// events of each word.
+    /// The worker of a thread at this post on these seats, which keeps its events in this list, and has made no word.
+    /// It goes on with what the seats belong to, if they are the owner's of its CPU where the thread is the CPU's own,
+    /// and a reader's there otherwise, and have the tickets and the updates of the thread's script, and the list is
+    /// empty with room for three events of each word.
     pub fn new(post: Post, own: Own, events: List<Event>) -> Worker
         ensures hand { result ≡ record { post = post; next = 0; own = Some own; events = events } }
         ensures begins { Begins post own events result }
@@ -68,8 +68,8 @@ impl Worker {
         &self.events
     }
 
-    /// Makes word `m` of the thread's script, counted from 0 after repeats, which is its next one. It first passes the gate,
-    /// and then appends the events of the word.
+    /// Makes word `m` of the thread's script, counted from 0 after repeats, which is its next one. It first passes the
+    /// gate, and then appends the events of the word.
     pub fn word<G: Gate>(&mut self, shared: &Shared, m: u32, gate: &G)
         requires shared { BelongsTo shared.now self.old }
         requires next { m ≡ self.old.next }

@@ -1,9 +1,10 @@
 //! The program `clock_tool`: the scheduler clock of a machine that a file describes.
 //!
-//! `clock_tool run` reads a machine file from standard input, brings its CPUs up, runs it, and writes its trace to standard
-//! output.
+//! `clock_tool run` reads a machine file from standard input, brings its CPUs up, runs it, and writes its trace to
+//! standard output.
 //! `clock_tool rate HZ BITS` reads nothing, and writes the rate of the scheduler clock for a counter of so many Hz and
-//! bits. The program ends with the status of the answer, and prints one line on standard error for every status but 0.
+//! bits. `clock_tool make N` reads nothing, runs a large machine that the number tells, and writes how large the run
+//! was. The program ends with the status of the answer, and prints one line on standard error for every status but 0.
 //! All that matters is in the library `clk_tool`: here its top call is given the standard streams and the open gate.
 #![tactic(auto)]
 

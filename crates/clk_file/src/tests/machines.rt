@@ -1,6 +1,6 @@
-//! Changes of the file that is read, and the machines that they give: the base, the time of ticket 1, the tick, the width,
-//! whether it starts stable, the reference, the bring-up and the watchdog; then the timeouts from CPU 1 on, the sources by
-//! kind, rating, margin, nominal rate, rate, width and number of jumps, and the words of each thread.
+//! Changes of the file that is read, and the machines that they give: the base, the time of ticket 1, the tick, the
+//! width, whether it starts stable, the reference, the bring-up and the watchdog; then the timeouts from CPU 1 on, the
+//! sources by kind, rating, margin, nominal rate, rate, width and number of jumps, and the words of each thread.
 
 pub(crate) const MACHINES: &str = "
  => 0 10 1000000 64 false ReferencePart { khz: 1000000, bits: 64, rating: 250, margin: 0 } None None, thread

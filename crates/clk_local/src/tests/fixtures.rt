@@ -152,8 +152,8 @@ pub struct Own {
     pub time: TimeSeat,
 }
 
-// All objects over a machine of one CPU, and the first seats. The words open at 20, and tickets 0 to 2 are drawn, for the
-// epoch and the boot stamp.
+// All objects over a machine of one CPU, and the first seats. The words open at 20, and tickets 0 to 2 are drawn, for
+// the epoch and the boot stamp.
 pub fn stand(
     alloc: Global,
     machine: Machine,

@@ -1,4 +1,4 @@
-use Rattle.std.proofs.Common.{◌≡◌, ◌-◌, true, ℤ, List, length, get_or, sym, ap, ◌∙◌, subst, refl, rules, FitsSigned, w64, to_z-of_z}
+use Rattle.std.proofs.Common.{◌≡◌, ◌-◌, true, ℤ, List, length, get_or, ap, ◌∙◌, subst, rules, FitsSigned, w64, to_z-of_z}
 use Rattle.clk_trace.specs.Demoted.{boot_stamp}
 use Rattle.clk_demote.specs.Demotions.{IsDemotion}
 use Rattle.clk_demote.specs.declared.events.StableStamp.{StableStamp}

@@ -1,8 +1,8 @@
-use Rattle.std.proofs.Common.{◌≡◌, ℕ, ◌+◌, List, ◌++◌, ◌∷◌, [], length, sym, ap, ◌∙◌, arith, get_or, ◌<◌, length-append}
+use Rattle.std.proofs.Common.{ℕ, List, ◌∷◌, [], length, sym, ap, ◌∙◌, arith, get_or, ◌<◌, length-append}
 use Rattle.std.proofs.lemmas.List.{get_or_default}
 use Rattle.clk_latch.specs.Epoch.{Place}
 use Rattle.clk_threads.specs.Ending.{IsOwnerAt, IsAtLatch}
-use Rattle.clk_threads.proofs.Latching.{met_none, TakesBoth, met_owner, met_reader, met_more, met_all}
+use Rattle.clk_threads.proofs.Latching.{met_none, met_owner, met_reader, met_more, met_all}
 use Rattle.clk_threads.proofs.joins.join_watch.Goals as goal
 
 pub loop-init : goal.loop-init

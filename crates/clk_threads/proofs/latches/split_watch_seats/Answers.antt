@@ -1,4 +1,4 @@
-use Rattle.std.proofs.Common.{◌≡◌, ℕ, ◌<◌, List, [], ◌∷◌, ◌++◌, length, get_or, refl, sym, ap, ◌∙◌, subst, arith, rules, length-append}
+use Rattle.std.proofs.Common.{◌≡◌, ℕ, ◌<◌, List, [], ◌∷◌, length, get_or, refl, sym, ap, ◌∙◌, subst, arith, rules, length-append}
 use Rattle.clk_latch.specs.Epoch.{Place, reader_of}
 use Rattle.clk_threads.specs.declared.latches.Latches.{Latches}
 use Rattle.clk_threads.specs.Preparing.{IsSplitOff}

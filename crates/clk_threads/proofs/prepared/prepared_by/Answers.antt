@@ -1,4 +1,4 @@
-use Rattle.std.proofs.Common.{◌≡◌, ◌+◌, cond, Some, None, refl, sym, ap, ◌∙◌, arith, rules, FitsSigned, w64, to_z-of_z}
+use Rattle.std.proofs.Common.{◌+◌, cond, Some, None, refl, sym, ap, ◌∙◌, arith, rules, FitsSigned, w64, to_z-of_z}
 use Rattle.std.specs.Prelude.{is_some}
 use Rattle.clk_ticket.specs.Time.{Time, without}
 use Rattle.clk_machine.specs.Tickets.{word_tickets, watch_tickets}

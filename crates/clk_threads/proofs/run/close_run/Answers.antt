@@ -1,4 +1,3 @@
-use Rattle.clk_threads.specs.Ending.{AreGathered}
 use Rattle.clk_threads.proofs.run.close_run.Goals as goal
 
 pub join_latches-owners-requires : goal.join_latches-owners-requires

@@ -1,5 +1,4 @@
 use Rattle.std.proofs.Common.{sym, subst, Some}
-use Rattle.clk_watcher.specs.Making.{Hand}
 use Rattle.clk_threads.specs.Ending.{HasGatheredWatch}
 use Rattle.clk_threads.proofs.Gathering.{watch_some, joins_one}
 use Rattle.clk_threads.proofs.run.gather_watch.Goals as goal

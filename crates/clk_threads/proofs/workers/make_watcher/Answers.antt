@@ -1,7 +1,6 @@
-use Rattle.std.proofs.Common.{◌≡◌, ℤ, List, [], ◌∷◌, length, get_or, Some, refl, sym, ap, ◌∙◌, rules, FitsSigned, w64, to_z-of_z}
+use Rattle.std.proofs.Common.{[], refl, sym, ap, rules, FitsSigned, w64, to_z-of_z}
 use Rattle.std.specs.Prelude.{is_some}
 use Rattle.std.proofs.lemmas.List.Elements.{All-nil, All-cons}
-use Rattle.clk_demote.specs.declared.events.StableStamp.{StableStamp}
 use Rattle.clk_watcher.specs.Making.{Hand}
 use Rattle.clk_threads.specs.Workers.{IsOfWatch}
 use Rattle.clk_threads.proofs.BootDemoting.{last_boot}

@@ -1,5 +1,5 @@
 use Rattle.std.proofs.Common.{[], refl}
-use Rattle.clk_trace.specs.TraceText.{event_text}
+use Rattle.clk_trace.specs.WriterParts.{event_text}
 use Rattle.clk_trace.proofs.Lining.{takes_item}
 use Rattle.clk_trace.proofs.write.write_events.Goals as goal
 

@@ -1,7 +1,7 @@
 use Rattle.std.proofs.Common.{take}
 use Rattle.clk_base.specs.Text.{lines_from}
 use Rattle.clk_trace.specs.Taking.{Takes, progress_of}
-use Rattle.clk_trace.specs.TraceText.{event_text}
+use Rattle.clk_trace.specs.WriterParts.{event_text}
 use Rattle.clk_trace.proofs.write.write_events.Given as goal
 
 abbrev pub invariant-loop-event : goal.invariant-loop-event

@@ -1,7 +1,7 @@
 use Rattle.std.proofs.Common.{take}
 use Rattle.clk_base.specs.Text.{lines_from}
 use Rattle.clk_trace.specs.Taking.{Takes, progress_of}
-use Rattle.clk_trace.specs.TraceText.{history_text}
+use Rattle.clk_trace.specs.WriterParts.{history_text}
 use Rattle.clk_trace.proofs.write.write_histories.Given as goal
 
 abbrev pub invariant-loop-word : goal.invariant-loop-word

@@ -1,5 +1,5 @@
 use Rattle.std.proofs.Common.{[], length}
-use Rattle.clk_trace.specs.TraceText.{run_text}
+use Rattle.clk_trace.specs.WriterParts.{run_text}
 use Rattle.clk_trace.proofs.Lining.{takes_item}
 use Rattle.clk_trace.proofs.write.write_runs.Goals as goal
 

@@ -1,7 +1,7 @@
 use Rattle.std.proofs.Common.{take, length}
 use Rattle.clk_base.specs.Text.{lines_from}
 use Rattle.clk_trace.specs.Taking.{Takes, progress_of}
-use Rattle.clk_trace.specs.TraceText.{run_text}
+use Rattle.clk_trace.specs.WriterParts.{run_text}
 use Rattle.clk_trace.proofs.write.write_runs.Given as goal
 
 abbrev pub invariant-loop-place : goal.invariant-loop-place

@@ -1,5 +1,5 @@
 use Rattle.std.proofs.Common.{[], refl}
-use Rattle.clk_trace.specs.TraceText.{step_text}
+use Rattle.clk_trace.specs.WriterParts.{step_text}
 use Rattle.clk_trace.proofs.Lining.{takes_item}
 use Rattle.clk_trace.proofs.write.write_steps.Goals as goal
 

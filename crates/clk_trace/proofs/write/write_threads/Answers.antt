@@ -1,5 +1,5 @@
 use Rattle.std.proofs.Common.{[]}
-use Rattle.clk_trace.specs.TraceText.{thread_text}
+use Rattle.clk_trace.specs.WriterParts.{thread_text}
 use Rattle.clk_trace.proofs.Lining.{takes_item}
 use Rattle.clk_trace.proofs.write.write_threads.Goals as goal
 

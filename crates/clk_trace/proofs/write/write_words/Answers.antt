@@ -1,5 +1,5 @@
 use Rattle.std.proofs.Common.{[], refl, arith}
-use Rattle.clk_trace.specs.TraceText.{word_text}
+use Rattle.clk_trace.specs.WriterParts.{word_text}
 use Rattle.clk_trace.proofs.Lining.{takes_item}
 use Rattle.clk_trace.proofs.write.write_words.Goals as goal
 

@@ -1,7 +1,7 @@
 use Rattle.std.proofs.Common.{take}
 use Rattle.clk_base.specs.Text.{lines_from}
 use Rattle.clk_trace.specs.Taking.{Takes, progress_of}
-use Rattle.clk_trace.specs.WatchText.{attempt_text}
+use Rattle.clk_trace.specs.WriterParts.{attempt_text}
 use Rattle.clk_trace.proofs.write_watch.write_attempts.Given as goal
 
 abbrev pub invariant-loop-attempt : goal.invariant-loop-attempt

@@ -1,5 +1,5 @@
 use Rattle.std.proofs.Common.{[], refl}
-use Rattle.clk_trace.specs.WatchText.{lift_text}
+use Rattle.clk_trace.specs.WriterParts.{lift_text}
 use Rattle.clk_trace.proofs.Lining.{takes_item}
 use Rattle.clk_trace.proofs.write_watch.write_lifts.Goals as goal
 

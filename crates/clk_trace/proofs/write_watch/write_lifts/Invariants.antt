@@ -1,7 +1,7 @@
 use Rattle.std.proofs.Common.{take}
 use Rattle.clk_base.specs.Text.{lines_from}
 use Rattle.clk_trace.specs.Taking.{Takes, progress_of}
-use Rattle.clk_trace.specs.WatchText.{lift_text}
+use Rattle.clk_trace.specs.WriterParts.{lift_text}
 use Rattle.clk_trace.proofs.write_watch.write_lifts.Given as goal
 
 abbrev pub invariant-loop-lift : goal.invariant-loop-lift

@@ -3,7 +3,7 @@ use Rattle.clk_machine.specs.declared.parts.ReferencePart.{ReferencePart}
 use Rattle.clk_machine.specs.Plan.{count_of}
 use Rattle.clk_machine.proofs.Bounds.{width_few}
 use Rattle.clk_watch.proofs.Smallness.{watchdog_small}
-use Rattle.clk_watch.proofs.numbers.watchdog_ns.Goals as goal
+use Rattle.clk_watch.proofs.numbers.reference_ns.Goals as goal
 
 pub cyc_to_ns-requires-clause-fits : goal.cyc_to_ns-requires-clause-fits
 cyc_to_ns-requires-clause-fits c =
