@@ -12,7 +12,7 @@ use Rattle.clk_machine.proofs.Bounds.{time_below, cycles_few, cpu_in_range, coun
 use Rattle.clk_warp.specs.declared.side.Side.{Side}
 use Rattle.clk_warp.specs.declared.side.Side.TheVariants.{Source, Target}
 use Rattle.clk_warp.specs.declared.side.WarpReading.{WarpReading}
-use Rattle.clk_warp.specs.Run.{cpu_of, adjust_of}
+use Rattle.clk_warp.specs.Run.{cpu_of, side_adjust}
 
 -- a counter goes at most 11 * 2^41 cycles from where it began
 count_high : (start : ℤ) (c : CpuPlan) (time : ℕ) → IsRateInKhz c.khz → AreJumps c.jumps → time < 3 * 2 ^ 39
@@ -38,12 +38,12 @@ counter_by m cpu adjust n k l h upper small =
     omega (arith, most, shows)
 
 side_by : (m : Plan) (cpu : ℕ) (adjust : ℤ) (n k : ℕ) (side : Side) → IsWithinLimits m → cpu < cpu_count m → adjust ≤ℤ pos n → k < most_tickets
-    → counter_at m (cpu_of side cpu) (adjust_of side adjust) k ≤ n + 19 * 2 ^ 41
+    → counter_at m (cpu_of side cpu) (side_adjust side adjust) k ≤ n + 19 * 2 ^ 41
 side_by m cpu adjust n k Source l h upper small = counter_by m 0 (pos 0) n k l (omega (arith, h)) (omega (arith, ints)) small
 side_by m cpu adjust n k Target l h upper small = counter_by m cpu adjust n k l h upper small
 
 pub readings_by : (m : Plan) (cpu : ℕ) (adjust : ℤ) (n : ℕ) (rs : List WarpReading) → IsWithinLimits m → cpu < cpu_count m → adjust ≤ℤ pos n
-    → All (λ r. r.ticket < most_tickets) rs → All (λ r. r.tsc ≡ counter_at m (cpu_of r.side cpu) (adjust_of r.side adjust) r.ticket) rs
+    → All (λ r. r.ticket < most_tickets) rs → All (λ r. r.tsc ≡ counter_at m (cpu_of r.side cpu) (side_adjust r.side adjust) r.ticket) rs
     → All (λ r. r.tsc ≤ n + 19 * 2 ^ 41) rs
 readings_by m cpu adjust n rs l h upper within shows = λ i d low.
     let most = side_by m cpu adjust n (get_or rs i d).ticket (get_or rs i d).side l h upper (within i d low) in

@@ -9,7 +9,7 @@ use Rattle.clk_machine.specs.Time.{counter_at}
 use Rattle.clk_warp.specs.declared.side.WarpRun.{WarpRun}
 use Rattle.clk_warp.specs.declared.outcome.Verdict.{Verdict}
 use Rattle.clk_warp.specs.declared.outcome.Verdict.TheVariants as verdict
-use Rattle.clk_warp.specs.Run.{limits_in, cpu_of, adjust_of}
+use Rattle.clk_warp.specs.Run.{limits_in, cpu_of, side_adjust}
 use Rattle.clk_warp.specs.Warps.{IsWarpRun}
 use Rattle.clk_warp.specs.Verdicts.{adjustment, verdict_of}
 use Rattle.clk_adjust.specs.declared.up.UpOutcome.{UpOutcome}
@@ -22,7 +22,7 @@ use Rattle.clk_adjust.specs.declared.up.BroughtUp.{BroughtUp}
 -- a warp run of this CPU, whose counter is adjusted by so many cycles: each reading is its side's counter at its ticket
 pub record IsRunOfCpu (m : Plan) (cpu : ℕ) (adjust : ℤ) (run : WarpRun) : Type 0 where
   pub run_is : IsWarpRun (limits_in m cpu) run
-  pub counters : All (λ r. r.tsc ≡ counter_at m (cpu_of r.side cpu) (adjust_of r.side adjust) r.ticket) run.readings.items
+  pub counters : All (λ r. r.tsc ≡ counter_at m (cpu_of r.side cpu) (side_adjust r.side adjust) r.ticket) run.readings.items
 
 -- each run adds what it calls for, and is made by the sum of what the runs before it called for
 abbrev pub adjusted : ℤ → WarpRun → ℤ

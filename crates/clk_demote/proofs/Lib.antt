@@ -2,5 +2,5 @@ pub mod Zipping
 pub mod Shifting
 pub mod Copying
 pub mod Lifting
-pub mod Keeping
+pub mod ContextKept
 pub mod Demoting

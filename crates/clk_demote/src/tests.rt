@@ -7,7 +7,7 @@ ghost use Rattle.clk_machine.specs.Records.{record_zero};
 ghost use Rattle.clk_machine.specs.Short.{IsWellFormed};
 ghost use Rattle.clk_latch.specs.Calls.{IsRecordZero};
 ghost use Rattle.clk_words.specs.Held.{place_of};
-ghost use Rattle.clk_words.specs.Knowing.{IsReading, MayDemote};
+ghost use Rattle.clk_words.specs.Knowing.{IsReadingKind, MayDemote};
 ghost use Rattle.clk_words.specs.Views.{first_view, giver_view, given_view};
 ghost use Rattle.clk_words.specs.declared.kind.SeatKind.TheVariants.{Watch};
 ghost use Rattle.clk_words.specs.declared.opening.Mode.TheVariants.{Stable};
@@ -195,7 +195,7 @@ fn stand(alloc: Global, machine: Machine) -> Result<(Shared, Seat, Own), AllocEr
 // What a reader finds of the pair and the offset once the mode is per-CPU.
 fn found(words: &Words, seat: &mut Seat) -> Option<(i64, i64, i64)>
     requires own { place_of seat.old ≡ words.now }
-    requires reading { IsReading seat.old.view.kind }
+    requires reading { IsReadingKind seat.old.view.kind }
 {
     match words.look_mode(seat) {
         Mode::Stable => None,

@@ -10,7 +10,7 @@ use Rattle.toml.specs.declared.value.Value.{Value}
 use Rattle.clk_base.specs.First.{first_from, first, each_from, each}
 use Rattle.clk_base.proofs.Firsts.{first_from-is, each_from-append, each_from-is, option_or-none}
 use Rattle.clk_machine.specs.declared.rows.Row.{Row}
-use Rattle.clk_file.specs.Keys.{Test, value_at, items_at, in_entry, tables_at}
+use Rattle.clk_file.specs.Keys.{Test, value_at, in_entry}
 
 abbrev pub seen : ℕ → List Value → List Data
 seen i vs = map view (take i vs)
@@ -112,8 +112,3 @@ pub entry_tests-none : (r after before : Test) (row : Row) (tests : ℕ → Memb
 entry_tests-none r after before row tests vs i v low is so_far none refused =
     tests_more r after before (in_entry row tests) vs i v low is so_far
     (refused ∙ ap (option_or r) (sym (entry_refused row tests (i + 1) (view v) none)))
-
-pub tables_all : {A B : Type 0} (plan : A → B) (g : Members → B) (xs : List A) (vs : List Value) (key : List ℕ) (t : Members) (i : ℕ) → length vs ≤ i
-    → map view vs ≡ items_at key t → map plan xs ≡ map g (filter_map as_table (seen i vs)) → map plan xs ≡ map g (tables_at key t)
-unfolding tables_at
-tables_all plan g xs vs key t i all is so_far = so_far ∙ ap (λ ds. map g (filter_map as_table ds)) (seen_all vs i all ∙ is)

@@ -5,7 +5,7 @@ use Rattle.toml.specs.Data.{Data, as_integer, as_array}
 use Rattle.toml.specs.View.{view, items_view}
 use Rattle.toml.specs.declared.value.Value.{Value}
 use Rattle.clk_machine.specs.Plan.{JumpPlan}
-use Rattle.clk_file.specs.Shape.{pair_of, jump_of}
+use Rattle.clk_file.specs.Shape.{jump_pair, jump_of}
 
 abbrev pub jump_plan_of : ℤ → ℤ → JumpPlan
 jump_plan_of at cycles = record { at = at; cycles = cycles }
@@ -19,7 +19,7 @@ pub jump_of-pair : (d : Data) (vs : List Value) (a b : Value) (at cycles : ℤ) 
 unfolding jump_of
 jump_of-pair d vs a b at cycles array two first second x y = rw (← array) (go vs two first second)
   where
-    go : (ws : List Value) → length ws ≡ 2 → a ≡ get_or ws 0 a → b ≡ get_or ws 1 b → Some (jump_plan_of at cycles) ≡ pair_of (items_view ws)
+    go : (ws : List Value) → length ws ≡ 2 → a ≡ get_or ws 0 a → b ≡ get_or ws 1 b → Some (jump_plan_of at cycles) ≡ jump_pair (items_view ws)
     go [] two first second = absurd (omega arith)
     go (v ∷ []) two first second = absurd (omega arith)
     go (v ∷ w ∷ []) two first second = rw (← first, ← second, ← x, ← y)
@@ -34,7 +34,7 @@ pub jump_of-other : (d : Data) (vs : List Value) → Some (items_view vs) ≡ as
 unfolding jump_of
 jump_of-other d vs array other = rw (← array) (go vs other)
   where
-    go : (ws : List Value) → (length ws ≡ 2 → ⊥) → None ≡ pair_of (items_view ws)
+    go : (ws : List Value) → (length ws ≡ 2 → ⊥) → None ≡ jump_pair (items_view ws)
     go [] other = refl
     go (v ∷ []) other = refl
     go (v ∷ w ∷ []) other = absurd (other refl)
@@ -45,7 +45,7 @@ pub jump_of-no_time : (d : Data) (vs : List Value) (a : Value) → Some (items_v
 unfolding jump_of
 jump_of-no_time d vs a array two first none = rw (← array) (go vs two first)
   where
-    go : (ws : List Value) → length ws ≡ 2 → a ≡ get_or ws 0 a → None ≡ pair_of (items_view ws)
+    go : (ws : List Value) → length ws ≡ 2 → a ≡ get_or ws 0 a → None ≡ jump_pair (items_view ws)
     go [] two first = absurd (omega arith)
     go (v ∷ []) two first = absurd (omega arith)
     go (v ∷ w ∷ []) two first = rw (← first, ← none)
@@ -60,7 +60,7 @@ pub jump_of-no_cycles : (d : Data) (vs : List Value) (b : Value) → Some (items
 unfolding jump_of
 jump_of-no_cycles d vs b array two second none = rw (← array) (go vs two second)
   where
-    go : (ws : List Value) → length ws ≡ 2 → b ≡ get_or ws 1 b → None ≡ pair_of (items_view ws)
+    go : (ws : List Value) → length ws ≡ 2 → b ≡ get_or ws 1 b → None ≡ jump_pair (items_view ws)
     go [] two second = absurd (omega arith)
     go (v ∷ []) two second = absurd (omega arith)
     go (v ∷ w ∷ []) two second = rw (← second, ← none, zip_none (as_integer (view v)))

@@ -7,7 +7,7 @@ use Rattle.std.specs.Str.{bytes_eq}
 use Rattle.toml.specs.Data.{Data, Items, no_items, item, Members, no_members, member, get_member, as_integer, as_bool, as_array, as_table}
 use Rattle.clk_base.specs.First.{unless, first}
 use Rattle.clk_machine.specs.declared.rows.Row.{Row}
-use Rattle.clk_machine.specs.Rows.{number_of}
+use Rattle.clk_machine.specs.Rows.{row_number}
 use Rattle.clk_file.specs.declared.error.TableError.{TableError}
 use Rattle.clk_file.specs.declared.error.TableError.TheVariants.{Key, Value, Word}
 
@@ -17,13 +17,13 @@ Test = Option TableError
 -- A place is the number of the key's row, the number of the entry and that of the item, which are counted from 1: 0
 -- stands where there is none. These refuse a key, a value and a script word at a place.
 abbrev pub key_at : Row → ℕ → TableError
-key_at row entry = Key (record { row = number_of row; entry = entry; item = 0 })
+key_at row entry = Key (record { row = row_number row; entry = entry; item = 0 })
 
 abbrev pub value_at : Row → ℕ → ℕ → TableError
-value_at row entry i = Value (record { row = number_of row; entry = entry; item = i })
+value_at row entry i = Value (record { row = row_number row; entry = entry; item = i })
 
 abbrev pub word_at : Row → ℕ → ℕ → TableError
-word_at row entry i = Word (record { row = number_of row; entry = entry; item = i })
+word_at row entry i = Word (record { row = row_number row; entry = entry; item = i })
 
 -- an unknown key of a table has the number of the table's row plus 100: the top table has no row, and its number is 0
 abbrev pub top_table : ℕ

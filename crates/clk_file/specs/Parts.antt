@@ -4,7 +4,7 @@ use Rattle.toml.specs.Data.{Members, as_str, as_integer, as_array, as_table}
 use Rattle.clk_base.specs.First.{first, each}
 use Rattle.clk_machine.specs.declared.rows.Row.{Row}
 use Rattle.clk_machine.specs.declared.rows.Row.TheVariants as rows
-use Rattle.clk_machine.specs.Rows.{number_of}
+use Rattle.clk_machine.specs.Rows.{row_number}
 use Rattle.clk_file.specs.declared.words.Thread.{Thread}
 use Rattle.clk_file.specs.declared.tables.Numbers.{Numbers}
 use Rattle.clk_file.specs.Keys.{Test, known_keys, required, optional, integer_or, flag_or, items_at, in_table, in_entry}
@@ -57,7 +57,7 @@ watch_rows t = optional as_table rows.Watchdog 0 (codes "watchdog") t ∷ in_tab
 -- the rows of a source behind `tsc`, which says which keys it has
 abbrev pub named_rows : List (List ℕ) → ℕ → Members → List Test
 named_rows keys e t =
-    known_keys (number_of rows.Source) e keys t
+    known_keys (row_number rows.Source) e keys t
     ∷ optional as_str rows.SourceName e (codes "name") t
     ∷ required as_integer rows.SourceRating e (codes "rating") t
     ∷ required as_integer rows.SourceMargin e (codes "margin") t

@@ -5,7 +5,7 @@ use Rattle.toml.specs.Data.{Data, Items, no_items, item, Members, as_str, as_int
 use Rattle.clk_base.specs.First.{unless, first, each}
 use Rattle.clk_machine.specs.declared.rows.Row.{Row}
 use Rattle.clk_machine.specs.declared.rows.Row.TheVariants as rows
-use Rattle.clk_machine.specs.Rows.{number_of}
+use Rattle.clk_machine.specs.Rows.{row_number}
 use Rattle.clk_machine.specs.Plan.{JumpPlan}
 use Rattle.clk_machine.specs.Limits.{is_second}
 use Rattle.clk_file.specs.declared.words.Thread.{Thread}
@@ -63,12 +63,12 @@ other_keys =
 -- ---- the items of lists
 
 -- a jump is a pair of integers
-abbrev pub pair_of : Items → Option JumpPlan
-pair_of (item at (item cycles no_items)) = option_map (λ p. record { at = p.0; cycles = p.1 }) (option_zip (as_integer at) (as_integer cycles))
-pair_of _ = None
+abbrev pub jump_pair : Items → Option JumpPlan
+jump_pair (item at (item cycles no_items)) = option_map (λ p. record { at = p.0; cycles = p.1 }) (option_zip (as_integer at) (as_integer cycles))
+jump_pair _ = None
 
 unfoldable pub jump_of : Data → Option JumpPlan
-jump_of d = option_and_then pair_of (as_array d)
+jump_of d = option_and_then jump_pair (as_array d)
 
 unfoldable pub jump_test : Row → ℕ → ℕ → Data → Test
 jump_test row entry i d = unless (is_some (jump_of d)) (value_at row entry i)
@@ -98,7 +98,7 @@ number_tests t =
 
 abbrev pub reference_tests : Members → List Test
 reference_tests t =
-    known_keys (number_of rows.Reference) 0 reference_keys t
+    known_keys (row_number rows.Reference) 0 reference_keys t
     ∷ required as_integer rows.ReferenceKhz 0 (codes "khz") t
     ∷ optional as_integer rows.ReferenceBits 0 (codes "bits") t
     ∷ optional as_integer rows.ReferenceRating 0 (codes "rating") t
@@ -107,7 +107,7 @@ reference_tests t =
 
 abbrev pub cpu_tests : ℤ → ℕ → Members → List Test
 cpu_tests version e t =
-    known_keys (number_of rows.Cpu) e (cpu_keys version) t
+    known_keys (row_number rows.Cpu) e (cpu_keys version) t
     ∷ optional as_integer rows.CpuKhz e (codes "khz") t
     ∷ optional as_integer rows.CpuOffset e (codes "offset") t
     ∷ optional as_integer rows.CpuSocket e (codes "socket") t
@@ -118,7 +118,7 @@ cpu_tests version e t =
 
 abbrev pub reader_tests : ℕ → Members → List Test
 reader_tests e t =
-    known_keys (number_of rows.Reader) e reader_keys t
+    known_keys (row_number rows.Reader) e reader_keys t
     ∷ required as_integer rows.ReaderCpu e (codes "cpu") t
     ∷ optional as_integer rows.ReaderRepeat e (codes "repeat") t
     ∷ optional as_array rows.ReaderScript e (codes "script") t ∷ each (word_test Reader rows.ReaderScript e) 1 (items_at (codes "script") t)
@@ -126,14 +126,14 @@ reader_tests e t =
 
 abbrev pub delay_tests : ℕ → Members → List Test
 delay_tests e t =
-    known_keys (number_of rows.Delay) e delay_keys t
+    known_keys (row_number rows.Delay) e delay_keys t
     ∷ required as_integer rows.DelayTicket e (codes "ticket") t
     ∷ required as_integer rows.DelayNs e (codes "ns") t
     ∷ []
 
 abbrev pub bring_up_tests : ℤ → Members → List Test
 bring_up_tests version t =
-    known_keys (number_of rows.BringUp) 0 (bring_up_keys version) t
+    known_keys (row_number rows.BringUp) 0 (bring_up_keys version) t
     ∷ required as_bool rows.BringUpAdjust 0 (codes "adjust") t
     ∷ required as_integer rows.BringUpTimeout 0 (codes "timeout_us") t
     ∷ optional as_integer rows.BringUpFirst 0 (codes "first_us") t
@@ -142,7 +142,7 @@ bring_up_tests version t =
 
 abbrev pub watch_tests : Members → List Test
 watch_tests t =
-    known_keys (number_of rows.Watchdog) 0 watch_keys t
+    known_keys (row_number rows.Watchdog) 0 watch_keys t
     ∷ required as_integer rows.WatchdogChecks 0 (codes "checks") t
     ∷ required as_integer rows.WatchdogPause 0 (codes "pause") t
     ∷ required as_integer rows.WatchdogSkew 0 (codes "skew") t
@@ -164,7 +164,7 @@ other_tests e t =
 abbrev pub source_tests : ℕ → Members → List Test
 source_tests e t =
     optional as_bool rows.SourceTsc e (codes "tsc") t
-    ∷ known_keys (number_of rows.Source) e (if is_own t then own_keys else other_keys) t
+    ∷ known_keys (row_number rows.Source) e (if is_own t then own_keys else other_keys) t
     ∷ optional as_str rows.SourceName e (codes "name") t
     ∷ required as_integer rows.SourceRating e (codes "rating") t
     ∷ required as_integer rows.SourceMargin e (codes "margin") t

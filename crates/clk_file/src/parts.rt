@@ -68,8 +68,8 @@ pub(crate) fn parts_of(
     let numbers = numbers_of(top, refusal);
     let reference = reference_of(top, refusal);
     let cpu = cpus_of(alloc, top, &numbers, refusal)?;
-    let reader = readers_of(alloc, top, refusal)?;
-    let delay = delays_of(alloc, top, refusal)?;
+    let reader = readers_of(alloc, top, &numbers, refusal)?;
+    let delay = delays_of(alloc, top, &numbers, refusal)?;
     let bringup = bring_up_of(top, numbers.version, refusal);
     let watchdog = watchdog_of(top, refusal);
     let source = sources_of(alloc, top, &numbers, refusal)?;

@@ -1,5 +1,6 @@
 -- What the calls of a cell latch do to a seat, by what its steps tell.
-use Rattle.std.proofs.Common.{◌≡◌, ℕ, ◌+◌, ◌<◌, ◌≤◌, Bool, true, false, cond, ◌||◌, ◌&&◌, ℤ, List, [], ◌∷◌, ◌++◌, length, Option, Some, None, refl, sym, ap, ◌∙◌, subst, arith, length-append}
+use Rattle.std.proofs.Common.{◌≡◌, ℕ, ◌+◌, ◌<◌, ◌≤◌, Bool, true, false, cond, ◌||◌, ◌&&◌, ℤ, List, [], ◌∷◌, ◌++◌, length, Option, Some, None, refl, sym, ap, ◌∙◌, subst, arith, length-append, append-nil}
+use Rattle.std.proofs.lemmas.List.Elements.{All-nil, All-cons}
 use Rattle.std.specs.Option.{option_or}
 use Rattle.std.proofs.lemmas.Bool.{false_from_ne_true}
 use lib.ListN.{get_elem?}
@@ -8,42 +9,51 @@ use Rattle.clk_num.specs.Wrapping.{IsBitsOf}
 use Rattle.clk_machine.specs.Plan.{Plan}
 use Rattle.clk_machine.specs.declared.reading.Published.{Published}
 use Rattle.clk_latch.specs.declared.rule.Knows.{Knows}
+use Rattle.clk_latch.specs.declared.rule.TurnBegin.{TurnBegin}
 use Rattle.clk_latch.specs.declared.cell_rule.CellRecord.{CellRecord}
 use Rattle.clk_latch.specs.Epoch.{Epoch}
 use Rattle.clk_latch.specs.Calls.{Updates}
-use Rattle.clk_latch.specs.Kept.{number, IsSmallIn, knows_first, knows_reader, first_stays, stays_beside, knows_both, knows_published, knows_settled}
-use Rattle.clk_latch.specs.Seated.{AreUpdatesInOrder, IsOwner, epoch_of}
+use Rattle.clk_latch.specs.LatchRule.{number, IsSmallIn, knows_first, knows_reader, first_stays, stays_beside, knows_both, knows_published, knows_settled}
+use Rattle.clk_latch.specs.LatchSeats.{AreUpdatesInOrder, IsOwner, epoch_of}
 use Rattle.clk_latch.specs.Turns.{Went, HasCurrent, BeganLast}
-use Rattle.clk_latch.specs.CellKept.{cell_sequence, Found, IsCellSeated}
-use Rattle.clk_latch.proofs.Prefixes.{prefix_self, prefix_more, prefix_length, at_within}
-use Rattle.clk_latch.proofs.Keeping.{true_not_false}
+use Rattle.clk_latch.specs.CellRule.{cell_sequence, Found, IsCellSeated}
+use Rattle.clk_latch.proofs.Prefixes.{prefix_length, at_within}
+use Rattle.clk_latch.proofs.LatchSteps.{true_not_false}
 use Rattle.clk_latch.proofs.Seating.{no_true, first_chosen, second_chosen}
 use Rattle.clk_latch.proofs.Reading.{owner_stays, reader_stays}
 use Rattle.clk_latch.proofs.Updating.{IsUpdate, first_owner, still_owner}
 
 -- ---- a reading
 
-pub cell_went : (v w : Knows) (x : CellRecord) → Found v x x w → Went (v, []) (w, [])
-cell_went v w x f =
-    subst (λ (k : Knows). Went (v, []) (k, [])) (sym f.is) (record {
+-- a read is told the ticket by what its caller picks
+pub found_by : (pick ticket : ℕ) (v w : Knows) (x : CellRecord) → pick ≡ ticket → Found pick v x x w → Found ticket v x x w
+found_by pick ticket v w x is found = subst (λ t. Found t v x x w) is found
+
+pub cell_went : (ticket : ℕ) (v w : Knows) (x : CellRecord) → Found ticket v x x w → Went ticket (v, []) (w, [])
+cell_went ticket v w x f =
+    let turn : TurnBegin = record { ticket = ticket; rec = number (cell_sequence x) } in
+    subst (λ (k : Knows). Went ticket (v, []) (k, [])) (sym f.is) (record {
       is = refl;
       records = f.grown;
-      begins = prefix_more v.begins (number (cell_sequence x) ∷ []);
+      begins = record { more = turn ∷ []; is = refl; same = All-cons (λ (b : TurnBegin). b.ticket ≡ ticket) turn [] refl (All-nil (λ (b : TurnBegin). b.ticket ≡ ticket)) };
       later = f.later;
       owner = λ o. f.owner o;
     })
 
-pub cell_began : (v w : Knows) (x : CellRecord) (rec : ℕ) → Found v x x w → rec ≡ x.rec → BeganLast v.begins w.begins rec
-cell_began v w x rec f is =
-    let whole = prefix_self v.begins in
-    let named : number (cell_sequence x) ≡ rec = omega (arith, is) in (
-      whole.0,
-      ap (λ (k : Knows). k.begins) f.is ∙ (ap (λ n. v.begins ++ n ∷ []) named ∙ ap (λ bs. bs ++ rec ∷ []) (sym whole.1)),
-    )
+pub cell_began : (ticket : ℕ) (v w : Knows) (x : CellRecord) (rec : ℕ) → Found ticket v x x w → rec ≡ x.rec → BeganLast ticket v.begins w.begins rec
+cell_began ticket v w x rec f is =
+    let named : number (cell_sequence x) ≡ rec = omega (arith, is) in
+    record {
+      between = [];
+      same = All-nil (λ (b : TurnBegin). b.ticket ≡ ticket);
+      is = ap (λ (k : Knows). k.begins) f.is
+          ∙ (ap (λ n. v.begins ++ record { ticket = ticket; rec = n } ∷ []) named
+          ∙ ap (λ bs. bs ++ record { ticket = ticket; rec = rec } ∷ []) (sym (append-nil v.begins)));
+    }
 
-pub cell_current : (v w : Knows) (x : CellRecord) (rec : ℕ) (ns : ℤ) → Found v x x w → 0 < length v.records → rec ≡ x.rec → IsBitsOf ns x.ns
+pub cell_current : (ticket : ℕ) (v w : Knows) (x : CellRecord) (rec : ℕ) (ns : ℤ) → Found ticket v x x w → 0 < length v.records → rec ≡ x.rec → IsBitsOf ns x.ns
     → HasCurrent w (record { rec = rec; cyc = x.cyc; ns = ns })
-cell_current v w x rec ns f seen is word =
+cell_current ticket v w x rec ns f seen is word =
     let some_there : 0 < length f.records = omega (arith, seen, prefix_length v.records f.records f.grown) in
     let count = f.count some_there in
     let p = at_within f.records x.rec (omega (arith, count)) in
@@ -58,11 +68,11 @@ cell_current v w x rec ns f seen is word =
     })
 
 -- the seat stays what it is
-pub still_seated : (current : Option Published) (v w : Knows) → Went (v, []) (w, []) → IsCellSeated current v → IsCellSeated current w
-still_seated current v w went s = record {
+pub still_seated : (ticket : ℕ) (current : Option Published) (v w : Knows) → Went ticket (v, []) (w, []) → IsCellSeated current v → IsCellSeated current w
+still_seated ticket current v w went s = record {
   some_seen = omega (arith, s.some_seen, prefix_length v.records w.records went.records);
-  reader = reader_stays current (v, []) (w, []) went s.reader;
-  owner = owner_stays current (v, []) (w, []) went s.owner;
+  reader = reader_stays ticket current (v, []) (w, []) went s.reader;
+  owner = owner_stays ticket current (v, []) (w, []) went s.owner;
 }
 
 -- ---- an update

@@ -1,10 +1,10 @@
 pub mod Prefixes
-pub mod Keeping
+pub mod LatchSteps
 pub mod Seating
 pub mod Turning
 pub mod Converting
 pub mod Updating
 pub mod Reading
 pub mod Staying
-pub mod CellKeeping
+pub mod CellSteps
 pub mod CellReading

@@ -17,8 +17,8 @@ use Rattle.clk_machine.specs.declared.reading.RawReading.{RawReading}
 use Rattle.clk_latch.specs.declared.rule.Knows.{Knows}
 use Rattle.clk_latch.specs.declared.turn.Current.{Current}
 use Rattle.clk_latch.specs.Calls.{Reads}
-use Rattle.clk_latch.specs.Kept.{IsSmallIn}
-use Rattle.clk_latch.specs.Seated.{AreUpdatesInOrder, IsOwner, epoch_of}
+use Rattle.clk_latch.specs.LatchRule.{IsSmallIn}
+use Rattle.clk_latch.specs.LatchSeats.{AreUpdatesInOrder, IsOwner, epoch_of}
 use Rattle.clk_latch.specs.Turns.{Went, HasCurrent, BeganLast}
 use Rattle.clk_latch.proofs.Prefixes.{at_reads, at_within}
 
@@ -26,7 +26,8 @@ use Rattle.clk_latch.proofs.Prefixes.{at_reads, at_within}
 far_above : (ns epoch zero : ℤ) → IsFrom0To (41 * 2 ^ 52) (above ns epoch) → IsFrom0To (46 * 2 ^ 52) (above epoch zero) → IsFrom0To (11 * 2 ^ 55) (above ns zero)
 far_above ns epoch zero more small = (omega (arith, ints, wrapped, more.0, more.1, small.0, small.1), omega (arith, ints, wrapped, more.0, more.1, small.0, small.1))
 
-pub reads : (m : Plan) (cpu : ℕ) (adjust : ℤ) (a b : Me (Unit {0}) Knows) (c : Current) (r : RawReading) → Went a b → BeganLast a.0.begins b.0.begins c.rec
+pub reads : (m : Plan) (cpu : ℕ) (adjust : ℤ) (a b : Me (Unit {0}) Knows) (c : Current) (r : RawReading) → Went r.ticket a b
+    → BeganLast r.ticket a.0.begins b.0.begins c.rec
     → HasCurrent b.0 c → r.rec ≡ c.rec → r.cyc ≡ counter_at m cpu adjust r.ticket
     → r.ns ≡ wrap (c.ns +ℤ pos (convert (masked_delta r.cyc c.cyc (count_of m.bits)) (sched_rate m))) → IsFrom0To (41 * 2 ^ 52) (above r.ns c.ns)
     → Reads m cpu adjust (epoch_of a.0) (epoch_of b.0) r
@@ -44,8 +45,9 @@ reads m cpu adjust a b c r went began has named shows time bound =
       };
       seen = went.records;
       last = has.count ∙ ap (λ i. i + 1) (sym named);
-      between = began.0;
-      begun = began.1 ∙ ap (λ i. (a.0.begins ++ began.0) ++ i ∷ []) (sym named);
+      between = began.between;
+      same = began.same;
+      begun = began.is ∙ ap (λ i. (a.0.begins ++ began.between) ++ record { ticket = r.ticket; rec = i } ∷ []) (sym named);
       owner = λ o. (went.owner o).0;
       kept = (ap (λ (me : Me (Unit {0}) Knows). me.0.owner) went.is, ap (λ (me : Me (Unit {0}) Knows). me.0.left) went.is);
       bound = λ d.
@@ -55,8 +57,9 @@ reads m cpu adjust a b c r went began has named shows time bound =
     }
 
 -- the owner's seat stays what it is
-pub owner_stays : (current : Option Published) (a b : Me (Unit {0}) Knows) → Went a b → (a.0.owner ≡ true → IsOwner current a.0) → b.0.owner ≡ true → IsOwner current b.0
-owner_stays current a b went was o =
+pub owner_stays : (ticket : ℕ) (current : Option Published) (a b : Me (Unit {0}) Knows) → Went ticket a b → (a.0.owner ≡ true → IsOwner current a.0) → b.0.owner ≡ true
+    → IsOwner current b.0
+owner_stays ticket current a b went was o =
     let own : a.0.owner ≡ true = sym (ap (λ (me : Me (Unit {0}) Knows). me.0.owner) went.is) ∙ o in
     let old = was own in
     let records : b.0.records ≡ a.0.records = (went.owner own).0 in
@@ -77,8 +80,8 @@ owner_stays current a b went was o =
       idle = wrote ∙ old.idle;
     }
 
-pub reader_stays : (current : Option Published) (a b : Me (Unit {0}) Knows) → Went a b → (a.0.owner ≡ false → (current ≡ None) × (a.0.left ≡ 0)) → b.0.owner ≡ false
-    → (current ≡ None) × (b.0.left ≡ 0)
-reader_stays current a b went was o =
+pub reader_stays : (ticket : ℕ) (current : Option Published) (a b : Me (Unit {0}) Knows) → Went ticket a b → (a.0.owner ≡ false → (current ≡ None) × (a.0.left ≡ 0))
+    → b.0.owner ≡ false → (current ≡ None) × (b.0.left ≡ 0)
+reader_stays ticket current a b went was o =
     let old = was (sym (ap (λ (me : Me (Unit {0}) Knows). me.0.owner) went.is) ∙ o) in
     (old.0, ap (λ (me : Me (Unit {0}) Knows). me.0.left) went.is ∙ old.1)

@@ -10,11 +10,11 @@ use Rattle.atomic_table.proofs.Lists.{at_set, at_snoc}
 use Rattle.clk_num.specs.Wrapping.{IsBitsOf}
 use Rattle.clk_machine.specs.declared.reading.Published.{Published}
 use Rattle.clk_latch.specs.declared.rule.Knows.{Knows}
-use Rattle.clk_latch.specs.Kept.{sequence, idle, Holds, IsSmallIn, Known, Latched, knows_first, knows_reader, knows_nothing, first_stays, stays_beside, knows_both}
+use Rattle.clk_latch.specs.LatchRule.{sequence, idle, Holds, IsSmallIn, Known, Latched, knows_first, knows_reader, knows_nothing, first_stays, stays_beside, knows_both}
 use Rattle.clk_latch.specs.Calls.{Joins as Merges}
-use Rattle.clk_latch.specs.Seated.{epoch_of}
+use Rattle.clk_latch.specs.LatchSeats.{epoch_of}
 use Rattle.clk_latch.proofs.Prefixes.{prefix_self, prefix_length}
-use Rattle.clk_latch.proofs.Keeping.{view_set, true_not_false, stands_none}
+use Rattle.clk_latch.proofs.LatchSteps.{view_set, true_not_false, stands_none}
 
 -- ---- the start
 
@@ -101,7 +101,7 @@ pub record IsChosen (v w stays other : Knows) : Type 0 where
   pub first_owner : v.owner ≡ true → stays.records ≡ v.records
   pub second_owner : w.owner ≡ true → (v.owner && w.owner) ≡ false → stays.records ≡ w.records
 
-record IsFirst (a b test : Bool) : Type 0 where
+record GoesFirst (a b test : Bool) : Type 0 where
   right : b ≡ true → (a ≡ true) × ((a && b) ≡ true)
   passed : a ≡ false → test ≡ true
   one_has : (a || b) ≡ true → a ≡ true
@@ -111,7 +111,7 @@ record IsFirst (a b test : Bool) : Type 0 where
 pub no_true : false ≡ true → ⊥
 no_true e = true_not_false (sym e)
 
-is_first : (a b test : Bool) → (a || (not b && test)) ≡ true → IsFirst a b test
+is_first : (a b test : Bool) → (a || (not b && test)) ≡ true → GoesFirst a b test
 is_first true b test e = record {
   right = λ o. (refl, o);
   passed = λ o. absurd (true_not_false o);

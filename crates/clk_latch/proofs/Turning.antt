@@ -1,13 +1,15 @@
 -- A turn loads both words of a record, or the sequence is greater then.
-use Rattle.std.proofs.Common.{◌≡◌, ℕ, ◌+◌, ◌*◌, ◌%◌, ◌≤◌, ℤ, List, get_or, refl, sym, ap, ◌∙◌, subst, arith}
+use Rattle.std.proofs.Common.{◌≡◌, ℕ, ◌+◌, ◌*◌, ◌%◌, ◌≤◌, ℤ, List, [], ◌∷◌, get_or, refl, sym, ap, ◌∙◌, subst, arith}
+use Rattle.std.proofs.lemmas.List.Elements.{All-nil, All-cons}
 use lib.ListN.{get_elem?}
 use Rattle.atomic_table.specs.Table.{Me, Step}
 use Rattle.clk_num.specs.Wrapping.{IsBitsOf}
 use Rattle.clk_machine.specs.declared.reading.Published.{Published}
 use Rattle.clk_latch.specs.declared.rule.Knows.{Knows}
+use Rattle.clk_latch.specs.declared.rule.TurnBegin.{TurnBegin}
 use Rattle.clk_latch.specs.declared.turn.Turn.{Turn}
-use Rattle.clk_latch.specs.Kept.{number, used, Holds, knows_begun, knows_later, Began, IsOfTurn, Loaded, IsCyc, IsNs}
-use Rattle.clk_latch.specs.Turns.{HasTurn, HasCurrent}
+use Rattle.clk_latch.specs.LatchRule.{number, used, Holds, knows_begun, knows_later, Began, IsOfTurn, Loaded, IsCyc, IsNs}
+use Rattle.clk_latch.specs.Turns.{Went, HasTurn, HasCurrent}
 use Rattle.clk_latch.proofs.Prefixes.{at_within}
 
 -- ---- the words of the copy that a turn uses
@@ -24,14 +26,14 @@ reads_ns at n same ws p h =
 
 -- ---- a turn
 
-pub has_turn : (st : Step (Unit {0})) (a b c d : Me (Unit {0}) Knows) (n x y : ℕ) → Began st a n b → Loaded IsCyc b x c → Loaded IsNs c y d
+pub has_turn : (ticket : ℕ) (st : Step (Unit {0})) (a b c d : Me (Unit {0}) Knows) (n x y : ℕ) → Began ticket st a n b → Loaded IsCyc b x c → Loaded IsNs c y d
     → HasTurn d.0 (record { sequence = n; cyc = x; ns = y })
-has_turn st a b c d n x y began first second =
-    let b_is : b.0 ≡ knows_begun n began.records a.0 = ap (λ (me : Me (Unit {0}) Knows). me.0) began.is in
+has_turn ticket st a b c d n x y began first second =
+    let b_is : b.0 ≡ knows_begun ticket n began.records a.0 = ap (λ (me : Me (Unit {0}) Knows). me.0) began.is in
     let c_is : c.0 ≡ knows_later first.now b.0 = ap (λ (me : Me (Unit {0}) Knows). me.0) first.is in
     let d_is : d.0 ≡ knows_later second.now c.0 = ap (λ (me : Me (Unit {0}) Knows). me.0) second.is in
-    let c_full : c.0 ≡ knows_later first.now (knows_begun n began.records a.0) = c_is ∙ ap (knows_later first.now) b_is in
-    let d_full : d.0 ≡ knows_later second.now (knows_begun n began.records a.0) = d_is ∙ ap (knows_later second.now) c_full in
+    let c_full : c.0 ≡ knows_later first.now (knows_begun ticket n began.records a.0) = c_is ∙ ap (knows_later first.now) b_is in
+    let d_full : d.0 ≡ knows_later second.now (knows_begun ticket n began.records a.0) = d_is ∙ ap (knows_later second.now) c_full in
     let b_seen : b.0.seen ≡ n = ap (λ (k : Knows). k.seen) b_is in
     let c_seen : c.0.seen ≡ first.now = ap (λ (k : Knows). k.seen) c_is in
     let cyc_whole = subst (λ (k : Knows). first.now ≤ k.at → IsOfTurn IsCyc k x) b_is first.whole in
@@ -45,6 +47,33 @@ has_turn st a b c d n x y began first second =
       cyc = λ still. cyc_whole (omega (arith, c_seen, second.later, still));
       ns = ns_whole;
     })
+
+-- ---- what a turn does to the seat
+
+went_begin : (ticket : ℕ) (st : Step (Unit {0})) (a b c d : Me (Unit {0}) Knows) (n x y : ℕ) → Began ticket st a n b → Loaded IsCyc b x c → Loaded IsNs c y d
+    → Went ticket a d
+went_begin ticket st a b c d n x y began first second =
+    let c_full : c ≡ (knows_later first.now (knows_begun ticket n began.records a.0), a.1) =
+    first.is ∙ ap (λ (me : Me (Unit {0}) Knows). (knows_later first.now me.0, me.1)) began.is in
+    let d_full : d ≡ (knows_later second.now (knows_later first.now (knows_begun ticket n began.records a.0)), a.1) =
+    second.is ∙ ap (λ (me : Me (Unit {0}) Knows). (knows_later second.now me.0, me.1)) c_full in
+    let b_seen : b.0.seen ≡ n = ap (λ (me : Me (Unit {0}) Knows). me.0.seen) began.is in
+    let c_seen : c.0.seen ≡ first.now = ap (λ (me : Me (Unit {0}) Knows). me.0.seen) first.is in
+    let b_owner : b.0.owner ≡ a.0.owner = ap (λ (me : Me (Unit {0}) Knows). me.0.owner) began.is in
+    let c_owner : c.0.owner ≡ a.0.owner = ap (λ (me : Me (Unit {0}) Knows). me.0.owner) c_full in
+    let turn : TurnBegin = record { ticket = ticket; rec = number n } in
+    subst (Went ticket a) (sym d_full) (record {
+      is = refl;
+      records = began.grown;
+      begins = record { more = turn ∷ []; is = refl; same = All-cons (λ (b : TurnBegin). b.ticket ≡ ticket) turn [] refl (All-nil (λ (b : TurnBegin). b.ticket ≡ ticket)) };
+      later = omega (arith, began.later, b_seen, first.later, c_seen, second.later);
+      owner = λ o. ((began.owner o).0, second.owner (c_owner ∙ o) ∙ (c_seen ∙ (first.owner (b_owner ∙ o) ∙ (b_seen ∙ (began.owner o).1))));
+    })
+
+-- a step is told the ticket by what its caller picks
+pub went_turn : (pick ticket : ℕ) (st : Step (Unit {0})) (a b c d : Me (Unit {0}) Knows) (n x y : ℕ) → pick ≡ ticket → Began pick st a n b → Loaded IsCyc b x c
+    → Loaded IsNs c y d → Went ticket a d
+went_turn pick ticket st a b c d n x y is began first second = subst (λ t. Went t a d) is (went_begin pick st a b c d n x y began first second)
 
 -- ---- a turn that closed at its own sequence
 

@@ -28,10 +28,10 @@ use Rattle.atomic_table.specs.declared.shared.Seat.{Seat}
 use Rattle.clk_ticket.specs.Time.{Time, after_draw}
 use Rattle.clk_latch.specs.Epoch.{Epoch, Place}
 use Rattle.clk_latch.specs.Calls.{AreDrawn, last_of, IsRecordZero, Updates}
-use Rattle.clk_latch.specs.Kept.{IsSmallIn, knows_first, knows_published, knows_settled}
-use Rattle.clk_latch.specs.Seated.{AreUpdatesInOrder, IsOwner, IsSeated, place_of, epoch_of}
+use Rattle.clk_latch.specs.LatchRule.{IsSmallIn, knows_first, knows_published, knows_settled}
+use Rattle.clk_latch.specs.LatchSeats.{AreUpdatesInOrder, IsOwner, IsSeated, place_of, epoch_of}
 use Rattle.clk_latch.proofs.Converting.{sum_stays}
-use Rattle.clk_latch.proofs.Keeping.{small_by, small_more}
+use Rattle.clk_latch.proofs.LatchSteps.{small_by, small_more}
 use Rattle.clk_latch.proofs.Prefixes.{prefix_self, prefix_more}
 
 -- ---- tickets

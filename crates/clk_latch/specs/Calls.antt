@@ -12,6 +12,7 @@ use Rattle.clk_machine.specs.Limits.{IsWithinLimits}
 use Rattle.clk_machine.specs.Records.{record_zero, IsNextRecord, AreRecords, IsRightReading}
 use Rattle.clk_machine.specs.declared.reading.RawReading.{RawReading}
 use Rattle.clk_machine.specs.declared.reading.Published.{Published}
+use Rattle.clk_latch.specs.declared.rule.TurnBegin.{TurnBegin}
 use Rattle.clk_latch.specs.Epoch.{Epoch}
 
 -- record 0 of some machine, which may have any ticket
@@ -37,9 +38,10 @@ pub record Reads (m : Plan) (cpu : ℕ) (adjust : ℤ) (before after : Epoch) (r
   -- the record is none older than any that the seat had seen
   pub seen : IsPrefix before.records after.records
   pub last : length after.records ≡ r.rec + 1
-  -- its number is the last of the begins, and was added in this call
-  pub between : List ℕ
-  pub begun : after.begins ≡ (before.begins ++ between) ++ r.rec ∷ []
+  -- the turns of this call were told the reading's ticket, so it was drawn before them; the last begin names its record
+  pub between : List TurnBegin
+  pub same : All (λ b. b.ticket ≡ r.ticket) between
+  pub begun : after.begins ≡ (before.begins ++ between) ++ record { ticket = r.ticket; rec = r.rec } ∷ []
   -- the owner has seen every record, so it sees no further one
   pub owner : before.owner ≡ true → after.records ≡ before.records
   pub kept : (after.owner ≡ before.owner) × (after.left ≡ before.left)

@@ -1,7 +1,7 @@
 pub mod Epoch
 pub mod Calls
-pub mod Kept
-pub mod Seated
+pub mod LatchRule
+pub mod LatchSeats
 pub mod Turns
-pub mod CellKept
+pub mod CellRule
 pub mod Laws

@@ -1,21 +1,29 @@
 -- What the steps of a reading and of an update do to a view. No public contract cites it.
 use Rattle.std.specs.Prelude.{◌≡◌, ℕ, ◌+◌, ◌*◌, ◌≤◌, true, List, [], ◌∷◌, ◌++◌, length}
+use Rattle.std.specs.List.{All}
 use mathlib.Core.Option.{some}
 use mathlib.Core.List.{IsPrefix}
 use lib.ListN.{get_elem?}
 use Rattle.atomic_table.specs.Table.{Me}
 use Rattle.clk_num.specs.Wrapping.{IsBitsOf}
 use Rattle.clk_machine.specs.declared.reading.Published.{Published}
-use Rattle.clk_latch.specs.Kept.{number, IsSmallIn, IsCyc, IsNs, IsOfTurn}
+use Rattle.clk_latch.specs.LatchRule.{number, IsSmallIn, IsCyc, IsNs, IsOfTurn}
 use Rattle.clk_latch.specs.declared.rule.Knows.{Knows}
+use Rattle.clk_latch.specs.declared.rule.TurnBegin.{TurnBegin}
 use Rattle.clk_latch.specs.declared.turn.Turn.{Turn}
 use Rattle.clk_latch.specs.declared.turn.Current.{Current}
 
--- a reading's steps: more records are seen, more turns have begun, a later sequence was seen
-pub record Went (before after : Me (Unit {0}) Knows) : Type 0 where
+-- more turns have begun, and each was told this ticket
+pub record BeganMore (ticket : ℕ) (before after : List TurnBegin) : Type 0 where
+  pub more : List TurnBegin
+  pub is : after ≡ before ++ more
+  pub same : All (λ b. b.ticket ≡ ticket) more
+
+-- the steps of a reading with this ticket: more records are seen, more turns have begun, a later sequence was seen
+pub record Went (ticket : ℕ) (before after : Me (Unit {0}) Knows) : Type 0 where
   pub is : after ≡ (record before.0 { records = after.0.records; begins = after.0.begins; seen = after.0.seen; at = after.0.at }, before.1)
   pub records : IsPrefix before.0.records after.0.records
-  pub begins : IsPrefix before.0.begins after.0.begins
+  pub begins : BeganMore ticket before.0.begins after.0.begins
   pub later : before.0.seen ≤ after.0.seen
   pub owner : before.0.owner ≡ true → (after.0.records ≡ before.0.records) × (after.0.seen ≡ before.0.seen)
 
@@ -38,9 +46,11 @@ pub record HasCurrent (v : Knows) (c : Current) : Type 0 where
   pub small : IsSmallIn v.records record_is
   pub count : length v.records ≡ c.rec + 1
 
--- a turn of this call was the last to begin, and found that record current
-abbrev pub BeganLast : List ℕ → List ℕ → ℕ → Type 0
-BeganLast before after rec = (between : List ℕ) × (after ≡ (before ++ between) ++ rec ∷ [])
+-- a turn of this call was the last to begin, and found that record current; each was told this ticket
+pub record BeganLast (ticket : ℕ) (before after : List TurnBegin) (rec : ℕ) : Type 0 where
+  pub between : List TurnBegin
+  pub same : All (λ b. b.ticket ≡ ticket) between
+  pub is : after ≡ (before ++ between) ++ record { ticket = ticket; rec = rec } ∷ []
 
 -- both words of a record were written to the idle copy
 pub record HasWritten (p : Published) (before after : Me (Unit {0}) Knows) : Type 0 where

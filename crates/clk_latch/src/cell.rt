@@ -3,15 +3,15 @@ ghost use Rattle.std.specs.Prelude.{◌≡◌, ◌+◌, ◌-◌, ◌*◌, ◌<�
 ghost use Rattle.crossbeam_utils.specs.Seq.{cell_view};
 ghost use Rattle.clk_latch.specs.Epoch.{owner_of};
 ghost use Rattle.clk_latch.specs.Calls.{IsRecordZero};
-ghost use Rattle.clk_latch.specs.Kept.{knows_first, knows_published, knows_settled};
-ghost use Rattle.clk_latch.specs.CellKept.{MayStore, knows_stored, knows_unopened};
+ghost use Rattle.clk_latch.specs.LatchRule.{knows_first, knows_published, knows_settled};
+ghost use Rattle.clk_latch.specs.CellRule.{MayStore, knows_stored, knows_unopened};
 ghost use Rattle.clk_latch.specs.Turns.{Went, HasCurrent, BeganLast, MayPublish};
 
 use crate::cell_rule::{CellRecord, Find, OneCell, Store, Stored, Tell, Whole};
 use crate::cell_seat::{CellPass, CellSeat};
 use crate::convert::{cycles_at, ns_since};
 use crate::epochs::Epochs;
-use crate::rule::{Both, Knows, Reader};
+use crate::rule::{Both, Drawn, Knows, Reader};
 use crate::turn::Current;
 use clk_machine::{CpuCounter, Published, RawReading};
 use clk_num::{bits_of, value_of_bits};
@@ -122,16 +122,17 @@ impl<'a, R: Wait> CellLatch<'a, R> {
         self.cell.swap_as::<Store<S>, R>(self.rt, pass, new);
     }
 
-    /// The record that was current when the cell was read.
-    fn current(&self, pass: &mut CellPass) -> Current
+    /// The record that was current when the cell was read. The reading has drawn its ticket, which the read is told.
+    fn current<D: Drawn>(&self, pass: &mut CellPass, ticket: u64) -> Current
         requires own { pass.old.table_id ≡ self.now }
+        requires pick { D.ticket_is ≡ ticket }
         requires some_seen { 0 < length (cell_view pass.old).records }
         ensures own { pass.new.table_id ≡ pass.old.table_id }
-        ensures went { Went (cell_view pass.old, []) (cell_view pass.new, []) }
-        ensures begun { BeganLast (cell_view pass.old).begins (cell_view pass.new).begins result.rec }
+        ensures went { Went ticket (cell_view pass.old, []) (cell_view pass.new, []) }
+        ensures begun { BeganLast ticket (cell_view pass.old).begins (cell_view pass.new).begins result.rec }
         ensures current { HasCurrent (cell_view pass.new) result }
     {
-        let found = self.cell.load_as::<Find, R>(self.rt, pass);
+        let found = self.cell.load_as::<Find<D>, R>(self.rt, pass);
         Current {
             rec: found.rec as u32,
             cyc: found.cyc,
@@ -158,7 +159,7 @@ impl<'a, R: Wait> Epochs for CellLatch<'a, R> {
     ) -> RawReading {
         let ticket = tickets.draw(time, 1);
         let cyc = cycles_at(counter, ticket);
-        let epoch = self.current(&mut seat.pass);
+        let epoch = self.current::<Brand>(&mut seat.pass, ticket);
         RawReading {
             ticket,
             cyc,

@@ -1,7 +1,7 @@
 //! What the cell of a cell latch holds, the rule over it, and what its steps tell.
 ghost use Rattle.std.specs.Prelude.{[], ◌∷◌};
 
-use crate::rule::Knows;
+use crate::rule::{Drawn, Knows};
 use atomic_table::Split;
 use crossbeam_utils::atomic::Words;
 use crossbeam_utils::rule::{Outcome, Protocol};
@@ -34,7 +34,7 @@ impl Words<3> for CellRecord {
 pub struct OneCell;
 
 impl Protocol<CellRecord, Knows> for OneCell {
-    ghost use Rattle.clk_latch.specs.CellKept.{CellKept, knows_unopened};
+    ghost use Rattle.clk_latch.specs.CellRule.{CellKept, knows_unopened};
 
     ghost holds = { CellKept };
 
@@ -42,19 +42,21 @@ impl Protocol<CellRecord, Knows> for OneCell {
 }
 
 // The read of a reading.
-pub(crate) struct Find;
+pub(crate) struct Find<D> {
+    drawn: PhantomData<D>,
+}
 
-impl Outcome<CellRecord, Knows> for Find {
-    ghost use Rattle.clk_latch.specs.CellKept.{Found};
+impl<D: Drawn> Outcome<CellRecord, Knows> for Find<D> {
+    ghost use Rattle.clk_latch.specs.CellRule.{Found};
 
-    ghost then = { Found };
+    ghost then = { Found D.ticket_is };
 }
 
 // A join tells nothing of its own, so this read tells what the rule says of the view.
 pub(crate) struct Tell;
 
 impl Outcome<CellRecord, Knows> for Tell {
-    ghost use Rattle.clk_latch.specs.CellKept.{Told};
+    ghost use Rattle.clk_latch.specs.CellRule.{Told};
 
     ghost then = { Told };
 }
@@ -85,7 +87,7 @@ pub(crate) struct Store<S> {
 
 impl<S: Stored> Outcome<CellRecord, Knows> for Store<S> {
     ghost use Rattle.std.specs.Prelude.{◌≡◌};
-    ghost use Rattle.clk_latch.specs.CellKept.{knows_stored};
+    ghost use Rattle.clk_latch.specs.CellRule.{knows_stored};
 
     ghost then = { λ before _ _ after. after ≡ knows_stored S.record_is S.left_is before };
 }
@@ -94,7 +96,7 @@ impl<S: Stored> Outcome<CellRecord, Knows> for Store<S> {
 pub(crate) struct Whole;
 
 impl Split<Knows> for Whole {
-    ghost use Rattle.clk_latch.specs.Kept.{knows_nothing};
+    ghost use Rattle.clk_latch.specs.LatchRule.{knows_nothing};
 
     ghost left = { λ _. knows_nothing };
 

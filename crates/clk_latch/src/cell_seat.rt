@@ -25,7 +25,7 @@ impl Model for CellSeat {
     ghost coded = { place_code };
 
     ghost use Rattle.crossbeam_utils.specs.Seq.{cell_view};
-    ghost use Rattle.clk_latch.specs.CellKept.{cell_place, IsCellSeated};
+    ghost use Rattle.clk_latch.specs.CellRule.{cell_place, IsCellSeated};
 
     ghost view = { λ s. cell_place s.pass };
 

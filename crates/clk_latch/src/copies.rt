@@ -1,6 +1,6 @@
 //! An update's stores to the words.
 ghost use Rattle.std.specs.Prelude.{◌≡◌, ◌%◌, ◌≤◌, true, []};
-ghost use Rattle.clk_latch.specs.Kept.{idle, IsSmallIn, knows_published, knows_settled};
+ghost use Rattle.clk_latch.specs.LatchRule.{idle, IsSmallIn, knows_published, knows_settled};
 ghost use Rattle.clk_latch.specs.Turns.{HasWritten, MayPublish, IsWritten, EndsWith};
 
 use crate::latch::{FIRST_COPY, Latch, SECOND_COPY, SEQUENCE};

@@ -84,7 +84,7 @@ impl Epochs for Latch {
     ) -> RawReading {
         let ticket = tickets.draw(time, 1);
         let cyc = cycles_at(counter, ticket);
-        let epoch = self.current(&mut seat.seat);
+        let epoch = self.current(&mut seat.seat, ticket);
         RawReading {
             ticket,
             cyc,

@@ -7,8 +7,9 @@
 //!
 //! It promises that a reading uses one whole record, which was current at some moment of the call and is not older than
 //! any that its seat had seen, that its ns are 0 to 11 * 2^55 above those of record 0, and that an update publishes the
-//! one record that follows. No call of a [`Latch`] waits, and none but [`Latch::new`] takes memory. It says nothing of
-//! the order between a reading's ticket and the moment at which another thread published a record.
+//! one record that follows. No call of a [`Latch`] waits, and none but [`Latch::new`] takes memory. Each turn of a
+//! reading is told the reading's ticket, which was thus drawn before it. It says nothing more of the order between that
+//! ticket and the moment at which another thread published a record.
 //!
 //! How it works: [`Epochs`] is what the layers above see of any latch. [`Latch`] is the one over words, whose rule
 //! (`specs/Kept.antt`) ties the words to what all seats know; each step keeps it. A contract sees what a seat has

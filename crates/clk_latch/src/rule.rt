@@ -4,14 +4,21 @@ use clk_machine::Published;
 use std::collections::LinkedList;
 use std::marker::{Brand, PhantomData};
 
+// How a turn began: the ticket that its reading had drawn, and the number of the record that it found current. No
+// value of it is made.
+pub struct TurnBegin {
+    pub ticket: u64,
+    pub rec: u32,
+}
+
 // What a seat knows. No value of it is made.
 pub struct Knows {
     // Whether it has the owner's right, and how many updates are left to it.
     pub owner: bool,
     pub left: u64,
-    // The records that it has seen, and the number of the record that each turn of its readings found current.
+    // The records that it has seen, and how each turn of its readings began.
     pub records: LinkedList<Published>,
-    pub begins: LinkedList<u64>,
+    pub begins: LinkedList<TurnBegin>,
     // A sequence that was reached, the one at which its last turn began, and what it wrote to the idle copy.
     pub seen: u64,
     pub at: u64,
@@ -31,27 +38,40 @@ pub struct Opening {
 pub struct TwoCopies;
 
 impl TableRule<(), Knows, Opening> for TwoCopies {
-    ghost use Rattle.clk_latch.specs.Kept.{Latched, knows_first};
+    ghost use Rattle.clk_latch.specs.LatchRule.{Latched, knows_first};
 
     ghost holds = { λ _. Latched };
 
     ghost first = { λ o. knows_first o.zero o.updates };
 }
 
+// The ticket that a reading drew before its first turn. Its caller picks it, since a load is told nothing.
+pub(crate) trait Drawn {
+    ghost use Rattle.std.specs.Prelude.{ℕ};
+
+    ghost ticket_is: { ℕ };
+}
+
+impl Drawn for Brand {
+    ghost ticket_is = { 0 };
+}
+
 // The load of the sequence at the beginning of a turn.
-pub(crate) struct Begin;
+pub(crate) struct Begin<D> {
+    drawn: PhantomData<D>,
+}
 
-impl Play<(), Knows> for Begin {
-    ghost use Rattle.clk_latch.specs.Kept.{Began};
+impl<D: Drawn> Play<(), Knows> for Begin<D> {
+    ghost use Rattle.clk_latch.specs.LatchRule.{Began};
 
-    ghost then = { Began };
+    ghost then = { Began D.ticket_is };
 }
 
 // The loads of the two words of a copy.
 pub(crate) struct LoadCyc;
 
 impl Play<(), Knows> for LoadCyc {
-    ghost use Rattle.clk_latch.specs.Kept.{Loaded, IsCyc};
+    ghost use Rattle.clk_latch.specs.LatchRule.{Loaded, IsCyc};
 
     ghost then = { λ _. Loaded IsCyc };
 }
@@ -59,7 +79,7 @@ impl Play<(), Knows> for LoadCyc {
 pub(crate) struct LoadNs;
 
 impl Play<(), Knows> for LoadNs {
-    ghost use Rattle.clk_latch.specs.Kept.{Loaded, IsNs};
+    ghost use Rattle.clk_latch.specs.LatchRule.{Loaded, IsNs};
 
     ghost then = { λ _. Loaded IsNs };
 }
@@ -68,7 +88,7 @@ impl Play<(), Knows> for LoadNs {
 pub(crate) struct Close;
 
 impl Play<(), Knows> for Close {
-    ghost use Rattle.clk_latch.specs.Kept.{Closed};
+    ghost use Rattle.clk_latch.specs.LatchRule.{Closed};
 
     ghost then = { Closed };
 }
@@ -77,7 +97,7 @@ impl Play<(), Knows> for Close {
 pub(crate) struct Write;
 
 impl Play<(), Knows> for Write {
-    ghost use Rattle.clk_latch.specs.Kept.{Put};
+    ghost use Rattle.clk_latch.specs.LatchRule.{Put};
 
     ghost then = { Put };
 }
@@ -102,7 +122,7 @@ pub(crate) struct Publish<N> {
 
 impl<N: New> Play<(), Knows> for Publish<N> {
     ghost use Rattle.std.specs.Prelude.{◌≡◌};
-    ghost use Rattle.clk_latch.specs.Kept.{knows_published};
+    ghost use Rattle.clk_latch.specs.LatchRule.{knows_published};
 
     ghost then = { λ _ before _ after. after ≡ (knows_published N.record_is before.0, before.1) };
 }
@@ -112,7 +132,7 @@ pub(crate) struct Settle;
 
 impl Play<(), Knows> for Settle {
     ghost use Rattle.std.specs.Prelude.{◌≡◌};
-    ghost use Rattle.clk_latch.specs.Kept.{knows_settled};
+    ghost use Rattle.clk_latch.specs.LatchRule.{knows_settled};
 
     ghost then = { λ _ before _ after. after ≡ (knows_settled before.0, before.1) };
 }
@@ -120,7 +140,7 @@ impl Play<(), Knows> for Settle {
 pub(crate) struct Reader;
 
 impl Split<Knows> for Reader {
-    ghost use Rattle.clk_latch.specs.Kept.{knows_reader};
+    ghost use Rattle.clk_latch.specs.LatchRule.{knows_reader};
 
     ghost left = { λ v. v };
 
@@ -130,7 +150,7 @@ impl Split<Knows> for Reader {
 pub(crate) struct Both;
 
 impl Join<Knows> for Both {
-    ghost use Rattle.clk_latch.specs.Kept.{knows_both, knows_nothing};
+    ghost use Rattle.clk_latch.specs.LatchRule.{knows_both, knows_nothing};
 
     ghost both = { knows_both };
 
@@ -141,7 +161,7 @@ impl Join<Knows> for Both {
 pub(crate) struct Learn;
 
 impl Play<(), Knows> for Learn {
-    ghost use Rattle.clk_latch.specs.Kept.{Learnt};
+    ghost use Rattle.clk_latch.specs.LatchRule.{Learnt};
 
     ghost then = { Learnt };
 }

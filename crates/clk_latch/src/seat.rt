@@ -21,7 +21,7 @@ impl Model for LatchSeat {
 
     ghost coded = { place_code };
 
-    ghost use Rattle.clk_latch.specs.Seated.{place_of, IsSeated};
+    ghost use Rattle.clk_latch.specs.LatchSeats.{place_of, IsSeated};
 
     ghost view = { λ s. place_of s.seat };
 

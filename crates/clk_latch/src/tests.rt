@@ -15,6 +15,7 @@ use clk_num::{List, masked_delta};
 use clk_ticket::{TicketTable, TimeSeat};
 use std::alloc::{AllocError, Global};
 use std::process::Abort;
+use std::sync::Wait;
 use std::test::Fail;
 use std::thread::{Threads, for_each_mut, join_mut};
 
@@ -36,7 +37,8 @@ fn none<T>(alloc: Global) -> Result<List<T>, AllocError>
 // One CPU, whose counter runs at the nominal rate and has these jumps.
 fn parts(alloc: Global, khz: i64, jumps: List<Jump>) -> Result<Parts, AllocError>
     requires { length jumps.items < 2 ^ 32 }
-    ensures { IfOk result (λ p. IsWellFormed (plan_of p)) }
+    ensures well_formed { IfOk result (λ p. IsWellFormed (plan_of p)) }
+    ensures count { IfOk result (λ p. cpu_count (plan_of p) ≡ 1) }
 {
     let script = Script {
         repeat: 1,
@@ -74,14 +76,14 @@ fn parts(alloc: Global, khz: i64, jumps: List<Jump>) -> Result<Parts, AllocError
     })
 }
 
-// One of 2.4 GHz, whose counter goes back once and then on.
-fn jumping_parts(alloc: Global) -> Result<Parts, AllocError>
-    ensures { IfOk result (λ p. IsWellFormed (plan_of p)) }
+// One CPU of this rate, whose counter goes back once and then on.
+fn one_cpu(rt: &impl Abort, alloc: Global, khz: i64) -> Result<Machine, AllocError>
+    ensures { IfOk result (λ m. cpu_count m ≡ 1) }
 {
     let mut jumps = List::with_room(alloc, 2)?;
     jumps.push(Jump::new(100_000, -30_000));
     jumps.push(Jump::new(200_000, 5_000));
-    parts(alloc, 2_400_000, jumps)
+    Ok(Machine::new(parts(alloc, khz, jumps)?).expect(rt, "a machine"))
 }
 
 // Record 0, for which no ticket is drawn here.
@@ -284,66 +286,73 @@ fn readers_of<E: Epochs>(
     Ok(readers)
 }
 
-// The owner with all that its readers have, and their readings.
+// The tickets of the owner and its readers, whose seats are joined.
 fn joined<E: Epochs>(
     epochs: &E,
     tickets: &TicketTable,
-    mut owner: Owner<E>,
+    mut seat: E::Seat,
+    mut time: TimeSeat,
     readers: Vec<Reader<E>>,
-    readings: &mut Vec<RawReading>,
-) -> Result<Owner<E>, AllocError>
-    requires own { E.fits epochs.now owner.seat }
-    requires table { owner.time.table ≡ tickets.now.table }
-    requires share { share_of owner.time ≡ UPDATES }
+) -> TimeSeat
+    requires own { E.fits epochs.now seat }
+    requires table { time.table ≡ tickets.now.table }
+    requires share { share_of time ≡ UPDATES }
     requires readers { All (λ r. (E.fits epochs.now r.seat) × (r.time.table ≡ tickets.now.table) × (share_of r.time ≡ READS)) readers.items }
-    ensures table { IfOk result (λ o. o.time.table ≡ tickets.now.table) }
-    ensures share { IfOk result (λ o. share_of o.time ≡ UPDATES + READS * vec_len readers) }
+    ensures table { result.table ≡ tickets.now.table }
+    ensures share { share_of result ≡ UPDATES + READS * vec_len readers }
 {
     for reader in readers {
-        owner = Owner {
-            seat: epochs.join(owner.seat, reader.seat),
-            time: tickets.join(owner.time, reader.time),
-            published: owner.published,
-        };
-        readings.extend_from_slice(reader.readings.as_slice())?;
+        seat = epochs.join(seat, reader.seat);
+        time = tickets.join(time, reader.time);
     }
-    Ok(owner)
+    time
 }
 
-// What a record gives for a counter value, by the formula.
-fn ns_by(rt: &impl Abort, machine: &Machine, record: &Published, cyc: u64) -> i64 {
+// What a record gives for the counter at a ticket, by the formula.
+fn reading_by(rt: &impl Abort, machine: &Machine, record: &Published, ticket: u64) -> RawReading
+    requires { 0 < cpu_count machine.now }
+{
+    assert!(rt; ticket < TOTAL);
+    let cyc = machine.counter(0, 0, ticket);
     let delta = masked_delta(cyc, record.cyc, machine.bits());
     let rate = machine.sched_rate();
     let ns = u128::from(delta) * u128::from(rate.mult) >> rate.shift;
-    record
-        .ns
-        .wrapping_add(i64::try_from(ns).ok().expect(rt, "few cycles"))
+    let ns = i64::try_from(ns).ok().expect(rt, "few cycles");
+    RawReading {
+        ticket,
+        cyc,
+        rec: record.rec,
+        ns: record.ns.wrapping_add(ns),
+    }
 }
 
 // The records follow one another from record 0 on.
 fn check_records(rt: &impl Abort, machine: &Machine, zero: Published, published: &[Published])
     requires { 0 < cpu_count machine.now }
 {
+    assert_eq!(rt; published.len(), 1_024);
     let mut last = zero;
     for record in published {
-        assert_eq!(rt; Some(record.rec), last.rec.checked_add(1));
-        assert!(rt; record.ticket < TOTAL);
-        assert_eq!(rt; record.cyc, machine.counter(0, 0, record.ticket));
-        assert_eq!(rt; record.ns, ns_by(rt, machine, &last, record.cyc));
-        last = *record;
+        let reading = reading_by(rt, machine, &last, record.ticket);
+        last = Published {
+            rec: last.rec.wrapping_add(1),
+            ticket: reading.ticket,
+            cyc: reading.cyc,
+            ns: reading.ns,
+        };
+        assert_eq!(rt; *record, last);
     }
 }
 
-// A reading is right by the record that it names.
-fn check_reading(rt: &impl Abort, machine: &Machine, record: &Published, reading: &RawReading)
-    requires { 0 < cpu_count machine.now }
-{
-    assert_eq!(rt; record.rec, reading.rec);
-    assert!(rt; reading.ticket < TOTAL);
-    assert_eq!(rt; reading.cyc, machine.counter(0, 0, reading.ticket));
-    assert_eq!(rt; reading.ns, ns_by(rt, machine, record, reading.cyc));
+// The record of this number.
+fn record_of(rt: &impl Abort, zero: Published, published: &[Published], rec: u32) -> Published {
+    if rec == 0 {
+        return zero;
+    }
+    *published.get(rec as usize - 1).expect(rt, "a record")
 }
 
+// A reader made all its readings, each is right by the record that it names, and those never fell.
 fn check_readings(
     rt: &impl Abort,
     machine: &Machine,
@@ -353,42 +362,46 @@ fn check_readings(
 )
     requires { 0 < cpu_count machine.now }
 {
+    assert_eq!(rt; readings.len(), 10_000);
+    let mut last = 0;
     for reading in readings {
-        let at = (reading.rec as usize).checked_sub(1);
-        let record = at
-            .map_or(Some(&zero), |i| published.get(i))
-            .expect(rt, "a record");
-        check_reading(rt, machine, record, reading);
+        let record = record_of(rt, zero, published, reading.rec);
+        assert_eq!(rt; *reading, reading_by(rt, machine, &record, reading.ticket));
+        assert!(rt; last <= reading.rec);
+        last = reading.rec;
     }
 }
 
-// All readings of a reader were made, and its records never fell.
-fn check_order<E: Epochs>(rt: &impl Abort, readers: &[Reader<E>]) {
+// All updates and readings are right.
+fn check_all<E: Epochs>(rt: &impl Abort, machine: &Machine, owner: &Owner<E>, readers: &[Reader<E>])
+    requires { 0 < cpu_count machine.now }
+{
+    let zero = zero_of(machine);
+    let published = owner.published.as_slice();
+    check_records(rt, machine, zero, published);
     for reader in readers {
-        assert_eq!(rt; reader.readings.len(), 10_000);
-        assert!(rt; reader.readings.as_slice().is_sorted_by_key(|r| r.rec));
+        check_readings(rt, machine, zero, published, reader.readings.as_slice());
     }
 }
 
-// The owner and its readers have run on threads of their own, and met.
+// The owner and its readers run on threads of their own, and all that they did is right. They have drawn this many
+// tickets.
 fn run<E: Epochs + Sync, R: Threads + Sync + Abort>(
     rt: &R,
     alloc: Global,
     machine: &Machine,
     epochs: &E,
-    seat: E::Seat,
+    mut seat: E::Seat,
     tickets: &TicketTable,
-    time: TimeSeat,
-    readings: &mut Vec<RawReading>,
-) -> Result<Owner<E>, AllocError>
+    mut time: TimeSeat,
+) -> Result<TimeSeat, AllocError>
     requires own { E.fits epochs.now seat }
     requires epoch { E.epoch seat ≡ owner_of (record_zero machine.now) UPDATES }
     requires cpu { 0 < cpu_count machine.now }
     requires time { time ≡ fresh tickets.now.table TOTAL 0 }
-    ensures table { IfOk result (λ o. o.time.table ≡ tickets.now.table) }
-    ensures share { IfOk result (λ o. share_of o.time ≡ TOTAL) }
+    ensures table { IfOk result (λ t. t.table ≡ tickets.now.table) }
+    ensures share { IfOk result (λ t. share_of t ≡ TOTAL) }
 {
-    let (mut seat, mut time) = (seat, time);
     let readers = readers_of(alloc, epochs, tickets, &mut seat, &mut time)?;
     let published = Vec::new(alloc);
     let mut owner = Owner {
@@ -397,11 +410,10 @@ fn run<E: Epochs + Sync, R: Threads + Sync + Abort>(
         published,
     };
     let readers = worked(rt, epochs, tickets, machine, &mut owner, readers);
-    check_order(rt, readers.as_slice());
-    joined(epochs, tickets, owner, readers, readings)
+    check_all(rt, machine, &owner, readers.as_slice());
+    Ok(joined(epochs, tickets, owner.seat, owner.time, readers))
 }
 
-// All updates and readings of the owner and its readers are right.
 fn check_run<E: Epochs + Sync, R: Threads + Sync + Abort>(
     rt: &R,
     alloc: Global,
@@ -414,36 +426,15 @@ fn check_run<E: Epochs + Sync, R: Threads + Sync + Abort>(
     requires cpu { 0 < cpu_count machine.now }
 {
     let (tickets, time) = TicketTable::new(alloc, TOTAL)?;
-    let mut readings = Vec::new(alloc);
-    let owner = run(
-        rt,
-        alloc,
-        machine,
-        epochs,
-        seat,
-        &tickets,
-        time,
-        &mut readings,
-    )?;
-    assert_eq!(rt; tickets.finish(owner.time), 31_024);
-    assert_eq!(rt; owner.published.len(), 1_024);
-    let zero = zero_of(machine);
-    check_records(rt, machine, zero, owner.published.as_slice());
-    check_readings(
-        rt,
-        machine,
-        zero,
-        owner.published.as_slice(),
-        readings.as_slice(),
-    );
+    let time = run(rt, alloc, machine, epochs, seat, &tickets, time)?;
+    assert_eq!(rt; tickets.finish(time), 31_024);
     Ok(())
 }
 
 #[test]
 fn latch_under_readers(rt: HostRuntime) -> Result<(), Fail> {
     let alloc = rt.alloc();
-    let machine = Machine::new(jumping_parts(alloc)?).expect(&rt, "a machine");
-    assert_eq!(rt; machine.cpus(), 1);
+    let machine = one_cpu(&rt, alloc, 2_400_000)?;
     let (latch, seat) = Latch::new(alloc, zero_of(&machine), UPDATES as u32)?;
     check_run(&rt, alloc, &machine, &latch, seat)?;
     Ok(())
@@ -452,48 +443,9 @@ fn latch_under_readers(rt: HostRuntime) -> Result<(), Fail> {
 #[test]
 fn cell_latch_under_readers(rt: HostRuntime) -> Result<(), Fail> {
     let alloc = rt.alloc();
-    let machine = Machine::new(jumping_parts(alloc)?).expect(&rt, "a machine");
-    assert_eq!(rt; machine.cpus(), 1);
+    let machine = one_cpu(&rt, alloc, 2_400_000)?;
     let (latch, seat) = CellLatch::new(&rt, alloc, zero_of(&machine), UPDATES as u32)?;
     check_run(&rt, alloc, &machine, &latch, seat)?;
-    Ok(())
-}
-
-// A reading, as its ticket, its counter value, its record and its ns.
-fn shown(reading: RawReading) -> (u64, u64, u32, i64) {
-    (reading.ticket, reading.cyc, reading.rec, reading.ns)
-}
-
-// At 1 GHz a ticket of 10 ns is 10 cycles.
-#[test]
-fn update_between_readings(rt: HostRuntime) -> Result<(), Fail> {
-    let alloc = rt.alloc();
-    let machine = Machine::new(parts(alloc, 1_000_000, none(alloc)?)?).expect(&rt, "a machine");
-    assert_eq!(rt; machine.cpus(), 1);
-    let counter = CpuCounter {
-        machine: &machine,
-        cpu: 0,
-        adjust: 0,
-    };
-    let (latch, mut seat) = Latch::new(alloc, zero_of(&machine), 1)?;
-    let (tickets, mut time) = TicketTable::new(alloc, 7)?;
-    tickets.draw(&mut time, 3);
-    let mut reader = latch.split(&mut seat);
-    let first = latch.read(&mut reader, &tickets, &mut time, counter);
-    assert_eq!(rt; shown(first), (3, 30, 0, 30));
-    let record = latch.update(&mut seat, &tickets, &mut time, counter);
-    assert_eq!(rt;
-        (record.rec, record.ticket, record.cyc, record.ns),
-        (1, 4, 40, 40)
-    );
-    let second = latch.read(&mut reader, &tickets, &mut time, counter);
-    assert_eq!(rt; shown(second), (5, 50, 1, 50));
-    let mut whole = latch.join(reader, seat);
-    let third = latch.read(&mut whole, &tickets, &mut time, counter);
-    assert_eq!(rt; shown(third), (6, 60, 1, 60));
-    assert_eq!(rt; tickets.finish(time), 7);
-    readings_stay_right();
-    drawn_tickets_stay();
     Ok(())
 }
 
@@ -527,23 +479,82 @@ fn answers<E: Epochs>(
     ([first, second, third], record)
 }
 
-// Both draw the tickets 0 to 3, each from a table of its own.
+// The answers at 1 GHz, where a ticket of 10 ns is 10 cycles, from ticket 3 on.
+const ANSWERS: ([RawReading; 3], Published) = (
+    [
+        RawReading {
+            ticket: 3,
+            cyc: 30,
+            rec: 0,
+            ns: 30,
+        },
+        RawReading {
+            ticket: 5,
+            cyc: 50,
+            rec: 1,
+            ns: 50,
+        },
+        RawReading {
+            ticket: 6,
+            cyc: 60,
+            rec: 1,
+            ns: 60,
+        },
+    ],
+    Published {
+        rec: 1,
+        ticket: 4,
+        cyc: 40,
+        ns: 40,
+    },
+);
+
+fn check_answers<E: Epochs>(
+    rt: &impl Abort,
+    alloc: Global,
+    machine: &Machine,
+    epochs: &E,
+    owner: E::Seat,
+) -> Result<(), AllocError>
+    requires own { E.fits epochs.now owner }
+    requires epoch { E.epoch owner ≡ owner_of (record_zero machine.now) 1 }
+    requires cpu { 0 < cpu_count machine.now }
+{
+    let (tickets, mut time) = TicketTable::new(alloc, 7)?;
+    tickets.draw(&mut time, 3);
+    assert_eq!(rt;
+        answers(epochs, owner, &tickets, &mut time, machine),
+        ANSWERS
+    );
+    assert_eq!(rt; tickets.finish(time), 7);
+    Ok(())
+}
+
+fn check_latch(rt: &impl Abort, alloc: Global, machine: &Machine) -> Result<(), AllocError>
+    requires { 0 < cpu_count machine.now }
+{
+    let (latch, seat) = Latch::new(alloc, zero_of(machine), 1)?;
+    check_answers(rt, alloc, machine, &latch, seat)
+}
+
+fn check_cell_latch<R: Abort + Wait>(
+    rt: &R,
+    alloc: Global,
+    machine: &Machine,
+) -> Result<(), AllocError>
+    requires { 0 < cpu_count machine.now }
+{
+    let (latch, seat) = CellLatch::new(rt, alloc, zero_of(machine), 1)?;
+    check_answers(rt, alloc, machine, &latch, seat)
+}
+
 #[test]
 fn both_latches_answer_alike(rt: HostRuntime) -> Result<(), Fail> {
     let alloc = rt.alloc();
-    let machine = Machine::new(jumping_parts(alloc)?).expect(&rt, "a machine");
-    assert_eq!(rt; machine.cpus(), 1);
-    let zero = zero_of(&machine);
-    let (latch, seat) = Latch::new(alloc, zero, 1)?;
-    let (cell, cell_seat) = CellLatch::new(&rt, alloc, zero, 1)?;
-    let (tickets, mut time) = TicketTable::new(alloc, 4)?;
-    let (cell_tickets, mut cell_time) = TicketTable::new(alloc, 4)?;
-    let over_words = answers(&latch, seat, &tickets, &mut time, &machine);
-    let over_cell = answers(&cell, cell_seat, &cell_tickets, &mut cell_time, &machine);
-    assert_eq!(rt; over_cell, over_words);
-    assert_eq!(rt;
-        (tickets.finish(time), cell_tickets.finish(cell_time)),
-        (4, 4)
-    );
+    let machine = one_cpu(&rt, alloc, 1_000_000)?;
+    check_latch(&rt, alloc, &machine)?;
+    check_cell_latch(&rt, alloc, &machine)?;
+    readings_stay_right();
+    drawn_tickets_stay();
     Ok(())
 }

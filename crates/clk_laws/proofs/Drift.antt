@@ -24,13 +24,13 @@ use Rattle.clk_laws.specs.Demoting.{LosesTheDrift}
 -- ---- the stamps of the boot
 
 -- the pair of the last one
-pair_of : (s : StableStamp) (ss : List StableStamp) → last_pair (boot_pair s) ss ≡ boot_pair (last_stamp s ss)
-pair_of s [] = refl
-pair_of s (next ∷ ss) = pair_of next ss
+pair-of-last : (s : StableStamp) (ss : List StableStamp) → last_pair (boot_pair s) ss ≡ boot_pair (last_stamp s ss)
+pair-of-last s [] = refl
+pair-of-last s (next ∷ ss) = pair-of-last next ss
 
 last_pair_is : (p : Pair) (s : StableStamp) (ss : List StableStamp) → 0 < length ss → last_pair p ss ≡ boot_pair (last_stamp s ss)
 last_pair_is p s [] h = absurd (omega arith)
-last_pair_is p s (next ∷ ss) h = pair_of next ss
+last_pair_is p s (next ∷ ss) h = pair-of-last next ss
 
 -- an offset comes back
 comes_back : (offset gtod raw : ℤ) → IsValue offset → offset ≡ wrap ((raw +ℤ wrap ((gtod +ℤ offset) -ℤ raw)) -ℤ gtod)

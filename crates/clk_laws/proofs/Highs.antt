@@ -21,7 +21,7 @@ use Rattle.clk_trace.specs.Lines.{Line, step_line}
 use Rattle.clk_trace.specs.Lines.Line.{Step as StepLine}
 use Rattle.clk_trace.specs.SeenBefore.{Seen, seen_at, shown_by_kind, stood_at, IsAboveSeen, NeverFalls}
 use Rattle.clk_trace.specs.Standing.{lifts_by}
-use Rattle.clk_trace.specs.WordHistory.{Placed, steps_of_kind, steps_from, all_steps, placed_lift, lift_steps, steps_of, steps_on, line_of, is_flat, history_cmp}
+use Rattle.clk_trace.specs.WordHistory.{Placed, steps_of_kind, steps_from, all_steps, placed_lift, lift_steps, steps_of, placed_on, line_of, is_flat, history_cmp}
 use Rattle.clk_trace.specs.declared.event.Event.{Event}
 use Rattle.clk_trace.specs.declared.event.EventKind.{EventKind}
 use Rattle.clk_trace.specs.declared.event.EventKind.TheVariants.{Stable, Local, Couple, Stamp, Nothing, Update, Pause}
@@ -139,16 +139,16 @@ some_kept : {A : Type 0} (P : A → Type 0) (keep : A → Bool) (xs : List A) �
 some_kept P keep xs h = All-filter keep P xs h
 
 histories_high : (o : ℤ) (steps : List Placed) (w : ℕ) (histories : List (Listed HistoryStep)) → All (λ p. IsNotBelow p.step.new p.step.old) steps
-    → EachFrom (λ w lines. IsLegalHistory o (steps_on w steps) lines.items) w histories
+    → EachFrom (λ w lines. IsLegalHistory o (placed_on w steps) lines.items) w histories
     → All (IsHighLine o) (flat_map (λ lines. map step_line lines.items) histories)
 histories_high o steps w [] rises h = All-nil (IsHighLine o)
 histories_high o steps w (lines ∷ histories) rises h =
-    let on : All (λ (p : Placed). IsNotBelow p.step.new p.step.old) (steps_on w steps) = some_kept (λ (p : Placed). IsNotBelow p.step.new p.step.old) (λ p. p.step.word == w) steps rises in
+    let on : All (λ (p : Placed). IsNotBelow p.step.new p.step.old) (placed_on w steps) = some_kept (λ (p : Placed). IsNotBelow p.step.new p.step.old) (λ p. p.step.word == w) steps rises in
     All-append
     (IsHighLine o)
     (map step_line lines.items)
     (flat_map (λ (l : Listed HistoryStep). map step_line l.items) histories)
-    (All-map (IsHighLine o) step_line lines.items (history_high o (steps_on w steps) lines.items on h.0))
+    (All-map (IsHighLine o) step_line lines.items (history_high o (placed_on w steps) lines.items on h.0))
     (histories_high o steps (w + 1) histories rises h.1)
 
 abbrev IsHighPlaced : ℤ → Placed → Type 0

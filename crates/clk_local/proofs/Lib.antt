@@ -1,4 +1,4 @@
 pub mod Raising
 pub mod Showing
-pub mod Keeping
+pub mod ContextKept
 pub mod Spending

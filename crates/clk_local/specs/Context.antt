@@ -6,7 +6,7 @@ use Rattle.clk_words.specs.declared.view.View.{View}
 use Rattle.clk_words.specs.Kinds.{cpu_of}
 use Rattle.clk_words.specs.Held.{place_of}
 use Rattle.clk_words.specs.Histories.{opens_at}
-use Rattle.clk_words.specs.Knowing.{HasFoundPerCpu, IsOwner, IsReading, StampsAreWhole}
+use Rattle.clk_words.specs.Knowing.{HasFoundPerCpu, IsOwner, IsReadingKind, StampsAreWhole}
 use Rattle.clk_words.specs.Calls.{KeepsSeat}
 use Rattle.clk_machine.specs.Plan.{Plan, cpu_count}
 use Rattle.clk_machine.specs.Records.{base_of, above_base}
@@ -46,7 +46,7 @@ pub record IsUsable {E S : Type 0} (fits : E → S → Type 0) (epoch : S → Ep
   pub of_words : place_of ctx.seat ≡ ctx.words.now
   pub of_latch : fits ctx.epochs.now ctx.latch_seat
   pub of_tickets : ctx.time.table ≡ ctx.tickets.now.table
-  pub reading : IsReading ctx.seat.view.kind
+  pub reading : IsReadingKind ctx.seat.view.kind
   pub cpu_is : ctx.counter.cpu ≡ cpu_of ctx.seat.view.kind
   pub machine_cpu : ctx.counter.cpu < cpu_count ctx.counter.machine.now
   pub near : IsNear 47 ctx.counter.adjust

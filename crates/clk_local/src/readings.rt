@@ -5,7 +5,7 @@ ghost use Rattle.clk_words.specs.Bounds.{IsRaw};
 ghost use Rattle.clk_words.specs.Calls.{KeepsSeat};
 ghost use Rattle.clk_words.specs.Held.{place_of};
 ghost use Rattle.clk_words.specs.Histories.{opens_at};
-ghost use Rattle.clk_words.specs.Knowing.{HasFoundPerCpu, IsReading, IsTrusted};
+ghost use Rattle.clk_words.specs.Knowing.{HasFoundPerCpu, IsReadingKind, IsTrusted};
 ghost use Rattle.clk_local.specs.Context.{site_of, known_of, IsUsable, Keeps, Spends};
 ghost use Rattle.clk_local.specs.Raising.{FindsWhy};
 ghost use Rattle.clk_local.specs.Shows.{ShowsLook, ShowsStable, ShowsRaised, ShowsReading};
@@ -18,6 +18,7 @@ use clk_words::{Mode, Seat, Step, Why, Words};
 
 /// A local read: a look at the mode, and then a stable or a raised reading by what it found. It draws one ticket,
 /// takes no memory, and waits only where the latch does. After `local_clock` of Linux 6.1.
+#[inline(always)]
 pub fn local<E: Epochs>(ctx: &mut Ctx<'_, E>) -> Reading
     requires usable { IsUsable E.fits E.epoch ctx.old }
     requires ticket { 1 ≤ ctx.old.time.left }
@@ -40,6 +41,7 @@ pub fn local<E: Epochs>(ctx: &mut Ctx<'_, E>) -> Reading
 /// The per-CPU part of a local read: the raw reading and the step whose new value is the reading. The seat has found
 /// the mode per-CPU. It draws one ticket, takes no memory, and waits only where the latch does. After
 /// `sched_clock_local` of Linux 6.1.
+#[inline(always)]
 pub fn local_raised<E: Epochs>(ctx: &mut Ctx<'_, E>) -> (RawReading, Step)
     requires usable { IsUsable E.fits E.epoch ctx.old }
     requires found { HasFoundPerCpu ctx.old.seat.view }
@@ -67,6 +69,7 @@ pub(crate) fn look<E: Epochs>(ctx: &mut Ctx<'_, E>) -> Mode
 }
 
 // A stable reading: the raw reading, and its sum with the offset of the stable clock.
+#[inline(always)]
 fn local_stable<E: Epochs>(ctx: &mut Ctx<'_, E>) -> (RawReading, i64)
     requires usable { IsUsable E.fits E.epoch ctx.old }
     requires ticket { 1 ≤ ctx.old.time.left }
@@ -80,10 +83,11 @@ fn local_stable<E: Epochs>(ctx: &mut Ctx<'_, E>) -> (RawReading, i64)
 
 // Loads what a reading goes by, the raw half of the pair first: a reader that is caught between the two stores of a
 // stamp gets a GTOD that is not older than its raw value, and so does not fall behind.
+#[inline(always)]
 fn load_why(words: &Words, seat: &mut Seat, raw: i64) -> Why
     requires own { place_of seat.old ≡ words.now }
     requires found { HasFoundPerCpu seat.old.view }
-    requires reading { IsReading seat.old.view.kind }
+    requires reading { IsReadingKind seat.old.view.kind }
     requires raw { IsRaw (opens_at seat.old.view.start) raw }
     ensures own { place_of seat.new ≡ words.now }
     ensures kept { KeepsSeat seat.old.view seat.new.view }

@@ -14,6 +14,7 @@ use clk_words::Mode;
 /// A tick: a look at the mode, and nothing if it is stable, else a stamp, and a local read that goes by it. The seat
 /// may stamp its CPU, and as many raws as GTODs follow stamp 0 by its view. It draws three tickets where it stamps,
 /// else none, takes no memory, and waits only where the latch does. After `sched_clock_tick` of Linux 6.1.
+#[inline(always)]
 pub fn tick<E: Epochs>(ctx: &mut Ctx<'_, E>) -> TickEvent
     requires usable { IsUsable E.fits E.epoch ctx.old }
     requires stamp { MayStamp ctx.old.seat.view }
@@ -46,6 +47,7 @@ pub fn idle<E: Epochs>(ctx: &mut Ctx<'_, E>) -> IdleEvent
 }
 
 // The per-CPU part of a tick.
+#[inline(always)]
 fn tick_raised<E: Epochs>(ctx: &mut Ctx<'_, E>) -> TickEvent
     requires usable { IsUsable E.fits E.epoch ctx.old }
     requires found { HasFoundPerCpu ctx.old.seat.view }

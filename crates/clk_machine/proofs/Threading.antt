@@ -73,6 +73,11 @@ pub some_words : (n repeats m : ℕ) → m < n * repeats → 0 < n
 some_words zero repeats m h = absurd (omega arith)
 some_words (suc n) repeats m h = omega arith
 
+-- there are no more words before the repeats than after them, where there is one at all
+pub no_more : (n repeats m : ℕ) → m < n * repeats → n ≤ n * repeats
+no_more n zero m h = absurd (omega (arith, h))
+no_more n (suc repeats) m h = omega arith
+
 -- a thread that is none of the CPUs' is a reader's
 pub reader_below : (p : Parts) (t cpus : ℕ) → cpus ≡ length (plan_of p).cpu → t < length (threads_of (plan_of p)) → cpus ≤ t → t - cpus < length p.reader.items
 reader_below p t cpus e h past =

@@ -11,4 +11,4 @@ pub mod Records
 pub mod Laws
 pub mod Sums
 pub mod Tested
-pub mod Kept
+pub mod MachineKept

@@ -13,7 +13,7 @@ use Rattle.clk_machine.specs.declared.parts.WatchPart.{WatchPart}
 use Rattle.clk_machine.specs.declared.error.MachineError.{MachineError}
 use Rattle.clk_machine.specs.declared.error.MachineError.TheVariants.{Value, Cpu, Tickets}
 use Rattle.clk_machine.specs.Plan.{Plan, ScriptPlan, JumpPlan, DelayPlan, CpuPlan, ReaderPlan, SourcePlan, count_of, cpu_count}
-use Rattle.clk_machine.specs.Rows.{number_of}
+use Rattle.clk_machine.specs.Rows.{row_number}
 use Rattle.clk_machine.specs.Limits.{most_cpus, ticket_limit, longest_pause, is_update}
 use Rattle.clk_machine.specs.Tickets.{tickets_needed}
 
@@ -22,10 +22,10 @@ Test = Option MachineError
 
 -- the value, or the CPU, at this place is out of range
 abbrev pub value_at : Row → ℕ → ℕ → MachineError
-value_at row entry item = Value (record { row = number_of row; entry = entry; item = item })
+value_at row entry item = Value (record { row = row_number row; entry = entry; item = item })
 
 abbrev pub cpu_fault : Row → ℕ → ℕ → MachineError
-cpu_fault row entry item = Cpu (record { row = number_of row; entry = entry; item = item })
+cpu_fault row entry item = Cpu (record { row = row_number row; entry = entry; item = item })
 
 abbrev pub is_between : ℕ → ℕ → ℤ → Bool
 is_between low high (pos n) = nat_le low n && nat_le n high

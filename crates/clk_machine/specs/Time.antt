@@ -2,7 +2,7 @@
 use Rattle.std.specs.Prelude.{ℕ, ◌+◌, ◌*◌, ◌/◌, ◌^◌, ℤ, pos, int_le, ◌+ℤ◌, List, [], ◌∷◌, slice_index_or, false, if◌then◌else◌}
 use Rattle.std.specs.List.{sum_by}
 use Rattle.clk_num.specs.declared.rate.Rate.{Rate}
-use Rattle.clk_num.specs.Rates.{mult_shift, source_rate}
+use Rattle.clk_num.specs.Rates.{clock_rate, source_rate}
 use Rattle.clk_num.specs.Conversion.{convert}
 use Rattle.clk_num.specs.Masked.{low_bits}
 use Rattle.clk_machine.specs.Plan.{Plan, CpuPlan, SourcePlan, DelayPlan, JumpPlan, count_of}
@@ -57,9 +57,9 @@ reference_at m k = cycles_in m.reference.khz (time_at m k)
 
 -- ---- rates
 
--- the rate of the scheduler clock: the cycles of an hour are to fit
+-- the rate of the scheduler clock, at the nominal frequency
 abbrev pub sched_rate : Plan → Rate
-sched_rate m = mult_shift (count_of m.nominal_khz * 1000) 1000000000 3600
+sched_rate m = clock_rate (count_of m.nominal_khz * 1000)
 
 -- the rates of a source and of the reference, as they were registered
 abbrev pub rate_of : Plan → ℕ → Rate

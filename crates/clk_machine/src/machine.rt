@@ -51,7 +51,7 @@ impl Model for Machine {
 
     ghost Value = { Plan };
 
-    ghost use Rattle.clk_machine.specs.Kept.{IsKept};
+    ghost use Rattle.clk_machine.specs.MachineKept.{IsKept};
 
     ghost view = { λ m. plan_of m.parts };
 

@@ -1,6 +1,6 @@
 //! The rows of the machine file, named once: the reader, the range tests and the text of a place all cite these.
 ghost use Rattle.std.specs.Prelude.{◌≡◌};
-ghost use Rattle.clk_machine.specs.Rows.{number_of};
+ghost use Rattle.clk_machine.specs.Rows.{row_number};
 
 /// A row of the machine file: a key, or a table. Its number is how a [`crate::Place`] names it.
 #[derive(Clone, Copy)]
@@ -56,7 +56,7 @@ pub enum Row {
 impl Row {
     /// The number of the row, 1 to 46. Those of version 2 come after all others.
     pub fn number(self) -> u32
-        ensures { result ≡ number_of self }
+        ensures { result ≡ row_number self }
     {
         self as u32
     }

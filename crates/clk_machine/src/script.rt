@@ -85,10 +85,12 @@ impl Script {
 
     /// Word `m` after the repeats.
     pub(crate) fn word(&self, m: u32) -> Word
-        requires { m < length (all_words (script_plan self.now)) }
+        requires word { m < length (all_words (script_plan self.now)) }
+        requires few { length (all_words (script_plan self.now)) ≤ 65536 }
         ensures { result ≡ slice_index_or (all_words (script_plan self.now)) m result }
     {
-        *self.words.get(m as usize % self.words.len())
+        // a division of 32 bits is the faster one
+        *self.words.get((m % self.words.len() as u32) as usize)
     }
 
     /// How many tickets the words draw, after the repeats.

@@ -12,6 +12,15 @@ use std::alloc::{AllocError, Global};
 /// The rate of the CPUs' counters by which they are converted, in kHz. Each runs up to 999 kHz faster.
 const NOMINAL_KHZ: u32 = 2_400_000;
 
+/// The machine of a number below 65,536. It is within all limits, so the error is want of memory.
+pub fn machine_of(alloc: Global, n: u32) -> Result<Machine, AllocError>
+    requires { n < 65536 }
+    ensures { IfOk result (λ m. m ≡ made n) }
+{
+    let parts = parts_of(alloc, n)?;
+    Ok(Machine::new(parts).unwrap())
+}
+
 fn cpu_part(alloc: Global, n: u32, cpu: u32) -> Result<CpuPart, AllocError>
     requires number { n < 65536 }
     requires cpu { cpu < made_cpus n }
@@ -86,13 +95,4 @@ fn parts_of(alloc: Global, n: u32) -> Result<Parts, AllocError>
         watchdog: None,
         source: List::with_room(alloc, 0)?,
     })
-}
-
-/// The machine of a number below 65,536. It is within all limits, so the error is want of memory.
-pub fn machine_of(alloc: Global, n: u32) -> Result<Machine, AllocError>
-    requires { n < 65536 }
-    ensures { IfOk result (λ m. m ≡ made n) }
-{
-    let parts = parts_of(alloc, n)?;
-    Ok(Machine::new(parts).unwrap())
 }

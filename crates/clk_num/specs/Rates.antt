@@ -30,6 +30,10 @@ rate_at from to (Some shift) = record { mult = quotient from to shift; shift = s
 abbrev pub mult_shift : ℕ → ℕ → ℕ → Rate
 mult_shift from to maxsec = rate_at from to (greatest_shift from to maxsec)
 
+-- the rate of the scheduler clock at so many Hz: the cycles of an hour are to fit
+abbrev pub clock_rate : ℕ → Rate
+clock_rate hz = mult_shift hz 1000000000 3600
+
 -- how many seconds of a source's cycles are to fit: until it turns over, at least 1, and 600 for a wide one
 abbrev pub max_seconds : ℕ → ℕ → ℕ
 max_seconds hz bits =

@@ -1,4 +1,4 @@
-// Signed values in words that compare as they do.
+//! Signed values in words that compare as they do.
 ghost use Rattle.std.specs.Prelude.{◌^◌, ◌<◌, pos, ◌-ℤ◌, ◌≤ℤ◌, ◌<ℤ◌};
 ghost use Rattle.clk_num.specs.Biased.{IsWordOf};
 

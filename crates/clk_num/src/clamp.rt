@@ -1,4 +1,4 @@
-// What a local reading puts in the place of its CPU's clock word.
+//! What a local reading puts in the place of its CPU's clock word.
 ghost use Rattle.std.specs.Prelude.{◌≡◌};
 ghost use Rattle.clk_num.specs.Clamp.{local_target};
 ghost use Rattle.clk_num.specs.Wrapping.{raise};

@@ -56,7 +56,7 @@ impl<T> List<T> {
         ensures items { self.new.items ≡ self.old.items ++ item ∷ [] }
         ensures room { self.new.room + 1 ≡ self.old.room }
     {
-        self.items.insert(self.items.len(), item).unwrap()
+        self.items.push_reserved(item)
     }
 
     /// Takes the last item out, and its place becomes room. There must be one.

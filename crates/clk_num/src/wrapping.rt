@@ -1,4 +1,4 @@
-// Clock values: signed 64-bit words that wrap, compared by the sign of a difference.
+//! Clock values: signed 64-bit words that wrap, compared by the sign of a difference.
 ghost use Rattle.std.specs.Prelude.{◌≡◌};
 ghost use Rattle.clk_num.specs.Wrapping.{above, raise, bits_of, value_of_bits};
 

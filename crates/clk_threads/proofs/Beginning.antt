@@ -34,7 +34,7 @@ use Rattle.clk_demote.specs.declared.events.Demotion.{Demotion}
 use Rattle.clk_threads.specs.Booting.{sched_offset_of, AreStamps, IsDemotedAtBootBy}
 use Rattle.clk_threads.specs.Preparing.{start_of, kind_on, gave, thread_seat, thread_seats, epoch_on, IsOfLatch, IsLatchSeat, time_seat, no_events, IsPrepared}
 use Rattle.clk_threads.specs.Workers.{post_of, fresh_hand, IsOfSeats}
-use Rattle.clk_threads.specs.Ending.{seats_of, shared_of}
+use Rattle.clk_threads.specs.Parts.{seats_of, shared_of}
 use Rattle.clk_threads.specs.declared.prepared.Prepared.{Prepared}
 use Rattle.clk_threads.proofs.Bringing.{adjust_after, adjust_at}
 use Rattle.clk_threads.proofs.Built.{built_at}

@@ -6,7 +6,7 @@ use Rattle.std.proofs.lemmas.Bool.{cases_lt}
 use Rattle.std.proofs.lemmas.Bool.Decides.{nat_tests}
 use Rattle.std.proofs.lemmas.Grind.{flat_map-append}
 use Rattle.std.proofs.lemmas.List.{get_or-map, map-append}
-use Rattle.std.proofs.lemmas.List.Elements.{All-nil, All-cons, All-head, All-weaker}
+use Rattle.std.proofs.lemmas.List.Elements.{All-nil, All-cons, All-head, All-tail, All-weaker}
 use Rattle.std.proofs.lemmas.List.Sums.{sum_by-cons}
 use Rattle.std.proofs.lemmas.Slice.Zip.{AllZip-long}
 use mathlib.Core.List.{IsPrefix}
@@ -52,17 +52,19 @@ use Rattle.clk_watcher.specs.Making.{Hand as WatchHand, has as has_parts}
 use Rattle.clk_watcher.specs.declared.parts.WatchParts.{WatchParts}
 use Rattle.clk_threads.specs.Preparing.{start_of, gave, gave_threads, gave_all, lifts_room, no_steps, histories_below, watch_time, IsPrepared}
 use Rattle.clk_threads.specs.Finishing.{Ran, RanWhole, KnowsNoMore, Watched, watch_site, WatchedWhole, IsRunOf}
-use Rattle.clk_threads.specs.Workers.{IsOfSeats, AreOfSeats, HaveRun, WatcherRan}
-use Rattle.clk_threads.specs.Ending.{shared_of, seats_of, begun_trace, whole_trace, IsOpened, owns_of, all_together, HasGathered, FitLatches, RecordsBegin, IsOwnerLeft, AreOwnersLeft, parts_of, IsAtLatch, IsOwnerAt, FitWatch, WatchFollows, MayJoinWatch, HasGatheredWatch, MayClose, HasClosed}
+use Rattle.clk_threads.specs.Workers.{IsOfSeats, AreOfSeats}
+use Rattle.clk_threads.specs.Parts.{shared_of, seats_of, Parts, CameAt, HasMadeAll, AreBack}
+use Rattle.clk_threads.specs.PartsKept.{StandsAt, IsRunFrom}
+use Rattle.clk_threads.specs.Ending.{begun_trace, whole_trace, hands_in, MayJoin, MayJoinSlot, owns_of, all_together, HasGathered, FitLatches, RecordsBegin, IsOwnerLeft, AreOwnersLeft, parts_of, IsAtLatch, IsOwnerAt, FitWatch, WatchFollows, MayJoinWatch, HasGatheredWatch, MayClose, HasClosed}
 use Rattle.clk_threads.specs.declared.prepared.Prepared.{Prepared}
 use Rattle.clk_threads.specs.declared.run.Finished.{Finished}
-use Rattle.clk_threads.specs.declared.run.RunParts.{RunParts}
+use Rattle.clk_threads.specs.declared.running.Running.{Running}
 use Rattle.clk_threads.proofs.Beginning.{fresh_worker}
 use Rattle.clk_threads.proofs.Built.{built_count}
 use Rattle.clk_threads.proofs.Following.{EndsOn, AreTogether, follow}
 use Rattle.clk_threads.proofs.Gathering.{together_lists, together_made, known_through}
 use Rattle.clk_threads.proofs.Giving.{gave_start, gave_made, owns_none}
-use Rattle.clk_threads.proofs.LawfulLists.{each_at, threads_at}
+use Rattle.clk_threads.proofs.LawfulLists.{threads_at}
 use Rattle.clk_threads.proofs.Leaving.{HasLeft, going_first, has_left, ran_of, ran_whole, left_owns, rans_of, rans_count, rans_events, rans_each, rans_blocks, rans_all, rans_map, latches_fit, latches_count, latches_epochs, rans_join, rans_share, rans_lists, lists_from, lists_steps, lists_numbers}
 use Rattle.clk_threads.proofs.Numbering.{each_of, cpu_low, cpus_few, threads_cover}
 use Rattle.clk_threads.proofs.Opening.{seats_count}
@@ -89,23 +91,43 @@ belong p ip hands w =
     (omega (arith, count))
     w.each
 
-pub hands_left : (p : Prepared) (ip : IsPrepared p.machine p) (before after : List Hand)
-    → AreOfSeats p.machine p.lists.adjusts.items p.sched_offset (seats_of p) before → HaveRun (shared_of p) before after → EachFrom (HasLeft p ip.booted) 0 after
-hands_left p ip before after w run =
-    each_from (HasLeft p ip.booted) 0 after (λ k d low.
-    let count = run.count in
-    let seats = w.count ∙ seats_count p ip in
-    let there : k < length before = omega (arith, low, count) in
-    has_left p ip (0 + k) (get_or before k d) (get_or after k d) (omega (arith, there, seats))
-    (fresh_worker p ip (0 + k) (get_or before k d) (omega (arith, there, seats)) (each_at (IsOfSeats p.machine p.lists.adjusts.items p.sched_offset (seats_of p)) 0 before k d there w.each))
-    (run.each k d there))
+-- the workers in their slots, which are the run's own and made their scripts
+slots_left : (p : Prepared) (ip : IsPrepared p.machine p) (n : ℕ) (slots : List (Option Hand)) → n + length slots ≤ length (threads_of p.machine)
+    → EachFrom (StandsAt p) n slots → All (HasMadeAll (shared_of p)) slots → EachFrom (HasLeft p ip.booted) n (hands_in slots)
+slots_left p ip n [] few each all = tt
+slots_left p ip n (x ∷ slots) few each all =
+    let made : HasMadeAll (shared_of p) x = All-head (HasMadeAll (shared_of p)) x slots all in
+    let h : Hand = made.0 in
+    let stands : StandsAt p n (Some h) = subst (StandsAt p n) made.1 each.0 in
+    let came : CameAt p n h = All-head (CameAt p n) h [] stands in
+    let low : n < length (threads_of p.machine) = omega (arith, few) in
+    subst (λ (y : Option Hand). EachFrom (HasLeft p ip.booted) n (listed y ++ hands_in slots)) (sym made.1) (
+      has_left p ip n came.first h (fresh_worker p ip n came.first low came.given) came.going made.2,
+      slots_left p ip (n + 1) slots (omega (arith, few)) each.1 (All-tail (HasMadeAll (shared_of p)) x slots all),
+    )
 
--- ---- the parts of a run whose workers made their scripts, and whose watcher its checks
+slots_count : (s : Shared) (slots : List (Option Hand)) → All (HasMadeAll s) slots → length (hands_in slots) ≡ length slots
+slots_count s [] all = refl
+slots_count s (x ∷ slots) all =
+    let made : HasMadeAll s x = All-head (HasMadeAll s) x slots all in
+    let rest = slots_count s slots (All-tail (HasMadeAll s) x slots all) in
+    let one = ap (λ (y : Option Hand). length (listed y ++ hands_in slots)) made.1 in
+    omega (arith, rest, one)
 
-abbrev pub run_of : Prepared → Listed Hand → Option WatchHand → RunParts
-run_of p after watcher = record {
+slots_join : (s : Shared) (slots : List (Option Hand)) → All (HasMadeAll s) slots → All (MayJoin s) (hands_in slots) → All (MayJoinSlot s) slots
+slots_join s [] all joins = All-nil (MayJoinSlot s)
+slots_join s (x ∷ slots) all joins =
+    let made : HasMadeAll s x = All-head (HasMadeAll s) x slots all in
+    let there : All (MayJoin s) (made.0 ∷ hands_in slots) = subst (λ (y : Option Hand). All (MayJoin s) (listed y ++ hands_in slots)) made.1 joins in
+    All-cons (MayJoinSlot s) x slots (made.0, made.1, All-head (MayJoin s) made.0 (hands_in slots) there)
+    (slots_join s slots (All-tail (HasMadeAll s) x slots all) (All-tail (MayJoin s) made.0 (hands_in slots) there))
+
+-- ---- the run, whose workers made their scripts, and whose watcher its checks
+
+abbrev pub run_of : Prepared → Listed (Option Hand) → Option WatchHand → Running
+run_of p slots watcher = record {
   shared = shared_of p;
-  workers = after;
+  slots = slots;
   watcher = watcher;
   first = p.opened.first;
   time = p.time;
@@ -113,24 +135,17 @@ run_of p after watcher = record {
   trace = begun_trace p;
 }
 
-abbrev pub run_after : RunParts → Listed Hand → Option WatchHand → RunParts
-run_after r after watcher = record {
-  shared = r.shared;
-  workers = after;
-  watcher = watcher;
-  first = r.first;
-  time = r.time;
-  latches = r.latches;
-  trace = r.trace;
-}
+-- the workers that are there
+abbrev hands_of : Listed (Option Hand) → Listed Hand
+hands_of slots = record { items = hands_in slots.items; room = slots.room }
 
-pub parts_are : (p : Prepared) (r : RunParts) (after : Listed Hand) (watcher : Option WatchHand) → IsOpened p r → run_after r after watcher ≡ run_of p after watcher
-parts_are p r after watcher o =
-    ap (λ (x : Shared). record { shared = x; workers = after; watcher = watcher; first = r.first; time = r.time; latches = r.latches; trace = r.trace }) o.shared
-    ∙ ap (λ (x : Held). record { shared = shared_of p; workers = after; watcher = watcher; first = x; time = r.time; latches = r.latches; trace = r.trace }) o.first
-    ∙ ap (λ (x : Time). record { shared = shared_of p; workers = after; watcher = watcher; first = p.opened.first; time = x; latches = r.latches; trace = r.trace }) o.time
-    ∙ ap (λ (x : Listed LatchPlace). record { shared = shared_of p; workers = after; watcher = watcher; first = p.opened.first; time = p.time; latches = x; trace = r.trace }) o.latches
-    ∙ ap (λ (x : Trace). record { shared = shared_of p; workers = after; watcher = watcher; first = p.opened.first; time = p.time; latches = p.lists.latches; trace = x }) o.trace
+run_is : (p : Prepared) (r : Running) → IsRunFrom p r → r ≡ run_of p r.slots r.watcher
+run_is p r o =
+    ap (λ (x : Shared). record { shared = x; slots = r.slots; watcher = r.watcher; first = r.first; time = r.time; latches = r.latches; trace = r.trace }) o.shared
+    ∙ ap (λ (x : Held). record { shared = shared_of p; slots = r.slots; watcher = r.watcher; first = x; time = r.time; latches = r.latches; trace = r.trace }) o.first
+    ∙ ap (λ (x : Time). record { shared = shared_of p; slots = r.slots; watcher = r.watcher; first = p.opened.first; time = x; latches = r.latches; trace = r.trace }) o.time
+    ∙ ap (λ (x : Listed LatchPlace). record { shared = shared_of p; slots = r.slots; watcher = r.watcher; first = p.opened.first; time = p.time; latches = x; trace = r.trace }) o.latches
+    ∙ ap (λ (x : Trace). record { shared = shared_of p; slots = r.slots; watcher = r.watcher; first = p.opened.first; time = p.time; latches = p.lists.latches; trace = x }) o.trace
 
 -- the workers made their scripts, and the watcher its checks
 pub record HaveLeft (p : Prepared) (booted : Time) (after : List Hand) (watcher : Option WatchHand) : Type 0 where
@@ -372,10 +387,12 @@ has_all p ip after watcher first time kept seats owners whole drawn watch j =
           (number_there m rans watched k many (omega (arith, low, made, joined, all, many, there)));
     }
 
-pub may_close : (p : Prepared) (ip : IsPrepared p.machine p) (after : Listed Hand) (watcher : Option WatchHand) → HaveLeft p ip.booted after.items watcher
-    → MayClose (run_of p after watcher)
-may_close p ip after watcher left =
+may_close : (p : Prepared) (ip : IsPrepared p.machine p) (slots : Listed (Option Hand)) (watcher : Option WatchHand) → All (HasMadeAll (shared_of p)) slots.items
+    → HaveLeft p ip.booted (hands_in slots.items) watcher → MayClose (run_of p slots watcher)
+may_close p ip slots watcher made left =
     let m : Plan = p.machine in
+    let after : Listed Hand = hands_of slots in
+    let all = slots_count (shared_of p) slots.items made in
     let start = p.opened.words.start in
     let count = left.count in
     let each = left.each in
@@ -391,9 +408,9 @@ may_close p ip after watcher left =
       gather = record {
         first_own = ap place_of ip.opened.first ∙ ap (λ (s : Start). record { table = p.opened.words.table; start = s }) (gave_all_start m start);
         time_own = ap (λ (t : Time). t.table) ip.time ∙ ip.drawn.table;
-        workers = rans_join p ip.booted 0 after.items each;
-        room = omega (arith, count, room);
-        latches_room = omega (arith, count, latches_room);
+        workers = slots_join (shared_of p) slots.items made (rans_join p ip.booted 0 after.items each);
+        room = omega (arith, count, all, room);
+        latches_room = omega (arith, count, all, latches_room);
       };
       latches = λ first time kept seats g.
           subst (FitLatches (shared_of p)) (sym (latches_are p ip after first time kept seats g)) (fit_latches p ip after.items count each);
@@ -622,9 +639,10 @@ run_at p ip after watcher first time kept seats owners whole drawn watch j recor
       words = fills.count ∙ ap length ip.lists.histories ∙ built_count (histories_below m) (no_steps m) (histories_built m) (cpu_count m);
     }
 
-pub is_run : (p : Prepared) (ip : IsPrepared p.machine p) (after : Listed Hand) (watcher : Option WatchHand) → HaveLeft p ip.booted after.items watcher
-    → (f : Finished) → HasClosed (run_of p after watcher) f → IsRunOf p.machine f.trace f.closed.history
-is_run p ip after watcher left f c =
+is_run : (p : Prepared) (ip : IsPrepared p.machine p) (slots : Listed (Option Hand)) (watcher : Option WatchHand) → HaveLeft p ip.booted (hands_in slots.items) watcher
+    → (f : Finished) → HasClosed (run_of p slots watcher) f → IsRunOf p.machine f.trace f.closed.history
+is_run p ip slots watcher left f c =
+    let after : Listed Hand = hands_of slots in
     let before : Trace = whole_trace (begun_trace p) c.kept c.watch f.trace.tickets in
     let rest = c.fills.rest in
     subst (λ (t : Trace). IsRunOf p.machine t f.closed.history) (sym rest)
@@ -633,28 +651,27 @@ is_run p ip after watcher left f c =
     c.follow f.trace.tickets f.trace.histories f.closed.history c.complete c.covers
     (subst (FillsHistories before) rest c.fills))
 
--- ---- from how it was opened and run
+-- ---- once all are back
 
-have_left : (p : Prepared) (ip : IsPrepared p.machine p) (r : RunParts) (after : Listed Hand) (watcher : Option WatchHand) → IsOpened p r
-    → HaveRun r.shared r.workers.items after.items → WatcherRan r.shared r.watcher watcher → HaveLeft p ip.booted after.items watcher
-have_left p ip r after watcher o run ran =
+-- what contracts see of it
+abbrev pub seen_as : Prepared → Running → Parts
+seen_as p r = record { prepared = p; slots = r.slots.items; watcher = r.watcher }
+
+have_left : (p : Prepared) (r : Running) → (o : IsRunFrom p r) → AreBack (seen_as p r) → HaveLeft p o.prepared.booted (hands_in r.slots.items) r.watcher
+have_left p r o back =
+    let count = o.count in
     record {
-      count = run.count ∙ o.workers.count ∙ seats_count p ip;
-      each = hands_left p ip r.workers.items after.items o.workers (subst (λ (s : Shared). HaveRun s r.workers.items after.items) o.shared run);
-      watch = watch_left p ip r.watcher watcher o.watcher (subst (λ (s : Shared). WatcherRan s r.watcher watcher) o.shared ran);
+      count = slots_count (shared_of p) r.slots.items back.workers ∙ count;
+      each = slots_left p o.prepared 0 r.slots.items (omega (arith, count)) o.slots back.workers;
+      watch = watch_left p o.prepared r.watcher back.watcher o.watcher back.checks;
     }
 
-pub closes : (p : Prepared) → IsPrepared p.machine p → (r : RunParts) (after : Listed Hand) (watcher : Option WatchHand) → IsOpened p r
-    → HaveRun r.shared r.workers.items after.items → WatcherRan r.shared r.watcher watcher → MayClose (run_after r after watcher)
-closes p ip r after watcher o run ran =
-    subst MayClose (sym (parts_are p r after watcher o)) (may_close p ip after watcher (have_left p ip r after watcher o run ran))
+pub closes : (p : Prepared) (r : Running) → IsRunFrom p r → AreBack (seen_as p r) → MayClose r
+closes p r o back = subst MayClose (sym (run_is p r o)) (may_close p o.prepared r.slots r.watcher back.workers (have_left p r o back))
 
-pub ends : (p : Prepared) → IsPrepared p.machine p → (r : RunParts) (after : Listed Hand) (watcher : Option WatchHand) → IsOpened p r
-    → HaveRun r.shared r.workers.items after.items → WatcherRan r.shared r.watcher watcher
-    → (f : Finished) → HasClosed (run_after r after watcher) f → IsRunOf p.machine f.trace f.closed.history
-ends p ip r after watcher o run ran f closed =
-    is_run p ip after watcher (have_left p ip r after watcher o run ran) f
-    (subst (λ (x : RunParts). HasClosed x f) (parts_are p r after watcher o) closed)
+pub ends : (p : Prepared) (r : Running) → IsRunFrom p r → AreBack (seen_as p r) → (f : Finished) → HasClosed r f → IsRunOf p.machine f.trace f.closed.history
+ends p r o back f closed =
+    is_run p o.prepared r.slots r.watcher (have_left p r o back) f (subst (λ (x : Running). HasClosed x f) (run_is p r o) closed)
 
 -- the watchdog's part of the trace may be written
 sized : (p : Prepared) (booted : Time) (watcher : Option WatchHand) (l : WatchLeft p booted watcher) (cpus : ℕ) → 0 < cpus
@@ -662,12 +679,12 @@ sized : (p : Prepared) (booted : Time) (watcher : Option WatchHand) (l : WatchLe
 sized p booted None l cpus some = tt
 sized p booted (Some h) l cpus some = (some, l.watched.sized)
 
-pub writable : (p : Prepared) → IsPrepared p.machine p → (r : RunParts) (after : Listed Hand) (watcher : Option WatchHand) → IsOpened p r
-    → HaveRun r.shared r.workers.items after.items → WatcherRan r.shared r.watcher watcher
-    → (f : Finished) → HasClosed (run_after r after watcher) f → MayWriteWatch (length f.trace.histories.items) f.trace.watch
-writable p ip r after watcher o run ran f closed =
-    let left = have_left p ip r after watcher o run ran in
-    let words = (ends p ip r after watcher o run ran f closed).words in
-    let some = (cpus_few p.machine ip.limits).0 in
+pub writable : (p : Prepared) (r : Running) → IsRunFrom p r → AreBack (seen_as p r) → (f : Finished) → HasClosed r f
+    → MayWriteWatch (length f.trace.histories.items) f.trace.watch
+writable p r o back f closed =
+    let left = have_left p r o back in
+    let words = (ends p r o back f closed).words in
+    let some = (cpus_few p.machine o.prepared.limits).0 in
     let is = ap (λ (t : Trace). t.watch) closed.fills.rest ∙ closed.gathered.watchdog.kept_is in
-    subst (MayWriteWatch (length f.trace.histories.items)) (sym is) (sized p ip.booted watcher left.watch (length f.trace.histories.items) (omega (arith, words, some)))
+    subst (MayWriteWatch (length f.trace.histories.items)) (sym is)
+    (sized p o.prepared.booted r.watcher left.watch (length f.trace.histories.items) (omega (arith, words, some)))

@@ -1,5 +1,6 @@
 -- The seats of workers are joined with two, one after another.
 use Rattle.std.proofs.Common.{◌≡◌, ℕ, zero, suc, ◌+◌, ◌/◌, nat_eq, Bool, true, false, ◌||◌, ◌<◌, List, [], ◌∷◌, ◌++◌, map, length, get_or, Option, Some, append_assoc, append-nil, sym, ap, ◌∙◌, subst, refl, arith, ⊎_elim, inl, inr, None}
+use Rattle.std.specs.Prelude.{is_some}
 use Rattle.std.specs.List.{All, flat_map, sum_by}
 use Rattle.std.proofs.lemmas.Bool.Decides.{nat_tests}
 use Rattle.std.proofs.lemmas.Grind.{flat_map-append}
@@ -21,6 +22,7 @@ use Rattle.clk_words.specs.Views.{own_lists, joint_made, together}
 use Rattle.clk_words.proofs.Fronts.{begins_self, begins_through}
 use Rattle.clk_words.proofs.Registers.{joint_at, part_through}
 use Rattle.clk_latch.specs.Epoch.{Place as LatchPlace}
+use Rattle.clk_trace.specs.Checks.{listed}
 use Rattle.clk_trace.specs.declared.event.Event.{Event}
 use Rattle.clk_worker.specs.declared.own.Own.{Own}
 use Rattle.clk_worker.specs.declared.shared.Shared.{Shared}
@@ -29,7 +31,7 @@ use Rattle.clk_trace.specs.declared.trace.WatchTrace.{WatchTrace}
 use Rattle.clk_watcher.specs.Making.{Hand as WatchHand}
 use Rattle.clk_watcher.specs.declared.parts.WatchParts.{WatchParts}
 use Rattle.clk_threads.specs.Finishing.{KnowsNoMore}
-use Rattle.clk_threads.specs.Ending.{own_list, owns_of, all_together, HasGathered, part_list, parts_of, WatchFollows, MayJoinWatch, HasGatheredWatch}
+use Rattle.clk_threads.specs.Ending.{hands_in, MayJoin, MayJoinSlot, own_list, owns_of, all_together, HasGathered, part_list, parts_of, WatchFollows, MayJoinWatch, HasGatheredWatch}
 
 -- ---- many views as one
 
@@ -113,6 +115,20 @@ pub second_known : (a b w : View) → Joins a b w → KnowsNoMore b w
 second_known a b w j = record { parts = j.second_parts; offset = j.second_offset }
 
 -- ---- one worker more
+
+pub hands_more : (slots : List (Option Hand)) (slot : Option Hand) (h : Hand) → slot ≡ Some h → hands_in (slots ++ slot ∷ []) ≡ hands_in slots ++ h ∷ []
+hands_more slots slot h is =
+    flat_map-append (λ (x : Option Hand). listed x) slots (slot ∷ []) ∙ ap (λ (x : Option Hand). hands_in slots ++ (listed x ++ [])) is
+
+-- the worker of this slot is there, and may be joined
+pub slot_there : (s : Shared) (slot : Option Hand) → MayJoinSlot s slot → is_some slot ≡ true
+slot_there s slot may = ap is_some may.1
+
+pub joins_slot : (s : Shared) (slot : Option Hand) (h : Hand) → slot ≡ Some h → MayJoinSlot s slot → MayJoin s h
+joins_slot s slot h is may = subst (MayJoin s) (some_hand may.0 h (sym may.1 ∙ is)) may.2
+  where
+    some_hand : (a b : Hand) → Some a ≡ Some b → a ≡ b
+    some_hand a b e = cc
 
 owns_more : (hands : List Hand) (h : Hand) (o : Own) → h.own ≡ Some o → owns_of (hands ++ h ∷ []) ≡ owns_of hands ++ o ∷ []
 owns_more hands h o is =

@@ -11,7 +11,7 @@ use Rattle.clk_trace.specs.declared.trace.Trace.{Trace}
 use Rattle.clk_trace.proofs.Gaining.{each_from}
 use Rattle.clk_threads.specs.Finishing.{Ran, RanWhole, IsRunOf, ShowsHistory}
 use Rattle.clk_threads.proofs.LawfulFields.{lawful_by, shows_by}
-use Rattle.clk_threads.proofs.LawfulLists.{cpu_at, thread_cpu}
+use Rattle.clk_threads.proofs.LawfulLists.{cpu_of_thread, thread_cpu}
 use Rattle.clk_threads.proofs.LawfulOpening.{percpu_mode, opening_zero, opening_offset}
 use Rattle.clk_threads.proofs.LawfulStable.{goes_demoted, stays_quiet}
 use Rattle.clk_threads.proofs.LawfulThreads.{start_in, GoesBy, Stands, EachStands, thread_has_run}
@@ -22,10 +22,10 @@ use Rattle.clk_threads.proofs.Numbering.{each_of}
 
 -- each thread knows the opening's pair and its offset
 goes_percpu : (m : Plan) (t : Trace) (closed : List Step) (run : IsRunOf m t closed) → begins_stable t ≡ false → (thread : ℕ) (r : Ran) → thread < length run.rans
-    → RanWhole m t.boots.items t.ups.cpus.items (start_in m t) run.booted.seen thread r → GoesBy t (cpu_at m thread) r
+    → RanWhole m t.boots.items t.ups.cpus.items (start_in m t) run.booted.seen thread r → GoesBy t (cpu_of_thread m thread) r
 goes_percpu m t closed run percpu thread r low ran =
     let count = run.count in
-    let within : cpu_at m thread < cpu_count m = thread_cpu m thread run.limits (omega (arith, low, count)) in
+    let within : cpu_of_thread m thread < cpu_count m = thread_cpu m thread run.limits (omega (arith, low, count)) in
     let mode = percpu_mode m t closed run percpu in
     let none = percpu_none m t closed run percpu in
     let zero_pair = opening_zero m t none in
@@ -42,11 +42,11 @@ goes_percpu m t closed run percpu thread r low ran =
 -- ---- any start
 
 stands_each : (m : Plan) (t : Trace) (closed : List Step) (run : IsRunOf m t closed)
-    → ((k : ℕ) (d : Ran) → k < length run.rans → Stands t (cpu_at m k) (get_or run.rans k d)) → EachStands m t run.rans
+    → ((k : ℕ) (d : Ran) → k < length run.rans → Stands t (cpu_of_thread m k) (get_or run.rans k d)) → EachStands m t run.rans
 stands_each m t closed run f =
-    each_from (λ k r. Stands t (cpu_at m k) r) 0 run.rans (λ k d low.
+    each_from (λ k r. Stands t (cpu_of_thread m k) r) 0 run.rans (λ k d low.
     let e : k ≡ 0 + k = omega arith in
-    subst (λ i. Stands t (cpu_at m i) (get_or run.rans k d)) e (f k d low))
+    subst (λ i. Stands t (cpu_of_thread m i) (get_or run.rans k d)) e (f k d low))
 
 stands_by : (m : Plan) (t : Trace) (closed : List Step) (run : IsRunOf m t closed) (b : Bool) (o : Option Demotion) → begins_stable t ≡ b → demotion_by t.watch ≡ o
     → EachStands m t run.rans
@@ -59,7 +59,7 @@ stands_by m t closed run true None stable e =
 stands_by m t closed run true (Some d) stable e =
     let count = run.count in
     stands_each m t closed run (λ k x low.
-    inl (goes_demoted m t closed run d stable e (cpu_at m k) (get_or run.rans k x) (thread_cpu m k run.limits (omega (arith, low, count))) (run.known k x low)))
+    inl (goes_demoted m t closed run d stable e (cpu_of_thread m k) (get_or run.rans k x) (thread_cpu m k run.limits (omega (arith, low, count))) (run.known k x low)))
 
 pub lawful : (m : Plan) (t : Trace) (closed : List Step) → IsRunOf m t closed → IsLawful m t
 lawful m t closed run = lawful_by m t closed run (stands_by m t closed run (begins_stable t) (demotion_by t.watch) refl refl)

@@ -12,7 +12,7 @@ use Rattle.clk_base.proofs.Rising.{rises_from}
 use Rattle.clk_num.specs.Listed.{Listed}
 use Rattle.clk_num.specs.Wrapping.{wrap}
 use Rattle.clk_words.specs.declared.step.Step.{Step}
-use Rattle.clk_words.specs.Calls.{all_steps}
+use Rattle.clk_words.specs.Calls.{own_steps}
 use Rattle.clk_words.specs.Histories.{opens_at, steps_on}
 use Rattle.clk_machine.specs.Plan.{Plan, cpu_count, thread_at, threads_of}
 use Rattle.clk_machine.specs.Records.{record_zero}
@@ -36,7 +36,7 @@ use Rattle.clk_trace.specs.Threads.{owners}
 use Rattle.clk_trace.specs.TicketOrder.{first_blocks, thread_blocks, IsTicketOrder}
 use Rattle.clk_trace.specs.Updates.{records_of, OwnsRecords, record_after, NamesLater, named_after}
 use Rattle.clk_trace.specs.Watchdog.{AreChecks, AreCalledFor}
-use Rattle.clk_trace.specs.WordHistory.{Placed, steps_from, all_steps as trace_steps, lift_steps, steps_of, steps_on as placed_on, line_of, IsHistoryOf}
+use Rattle.clk_trace.specs.WordHistory.{Placed, steps_from, all_steps as trace_steps, lift_steps, steps_of, placed_on, line_of, IsHistoryOf}
 use Rattle.clk_trace.specs.declared.event.Event.{Event}
 use Rattle.clk_trace.specs.declared.trace.HistoryStep.{HistoryStep}
 use Rattle.clk_trace.specs.declared.trace.Trace.{Trace}
@@ -48,7 +48,7 @@ use Rattle.clk_worker.proofs.RunOrders.{Ordered}
 use Rattle.clk_worker.proofs.RunSteps.{numbered}
 use Rattle.clk_threads.specs.Booting.{gtod_offset_of, stable_offset_of, IsBootDemotion}
 use Rattle.clk_threads.specs.Finishing.{Ran, events_of, Watched, IsRunOf, change_of, ShowsHistory}
-use Rattle.clk_threads.proofs.LawfulLists.{each_all, each_map, each_zip, each_first, all_each, zip_rest, cpu_at, threads_at, cpus_at, cpus_count, placed_from, placed_are, placed_all, placed_mine}
+use Rattle.clk_threads.proofs.LawfulLists.{each_all, each_map, each_zip, each_first, all_each, zip_rest, cpu_of_thread, threads_at, cpus_at, cpus_count, placed_from, placed_are, placed_all, placed_mine}
 use Rattle.clk_threads.proofs.LawfulOpening.{started_stable, opening_word}
 use Rattle.clk_threads.proofs.LawfulThreads.{start_in, EachStands, IsThread, all_threads, thread_right, owner_records, owner_names, thread_stamps, thread_modes, thread_below, thread_never_falls}
 use Rattle.clk_threads.proofs.LawfulTickets.{rise_all, blocks_all, first_is}
@@ -61,11 +61,11 @@ each_thread : (m : Plan) (t : Trace) (closed : List Step) (run : IsRunOf m t clo
 each_thread m t closed run stands Q f = subst (All Q) (sym run.threads) (each_all (IsThread m t closed) Q f 0 run.rans (all_threads m t closed run stands))
 
 zip_threads : (m : Plan) (t : Trace) (closed : List Step) (run : IsRunOf m t closed) → EachStands m t run.rans → (Q : ℕ → Listed Event → Type 0)
-    → ((thread : ℕ) (r : Ran) → IsThread m t closed thread r → Q (cpu_at m thread) r.events) → AllZip Q t.cpu_of.items t.threads.items
+    → ((thread : ℕ) (r : Ran) → IsThread m t closed thread r → Q (cpu_of_thread m thread) r.events) → AllZip Q t.cpu_of.items t.threads.items
 zip_threads m t closed run stands Q f =
     let cpus : List ℕ = map (λ s. s.0) (threads_of m) in
     let all : AllZip Q cpus (events_of run.rans) =
-    each_zip (λ k x. x ≡ cpu_at m k) (IsThread m t closed) Q (λ k x r same h. subst (λ j. Q j r.events) (sym same) (f k r h)) 0 cpus run.rans
+    each_zip (λ k x. x ≡ cpu_of_thread m k) (IsThread m t closed) Q (λ k x r same h. subst (λ j. Q j r.events) (sym same) (f k r h)) 0 cpus run.rans
     (run.count ∙ sym (cpus_count m)) (cpus_at m) (all_threads m t closed run stands) in
     subst (λ cs. AllZip Q cs t.threads.items) (sym run.cpu_of) (subst (AllZip Q cpus) (sym run.threads) all)
 
@@ -193,7 +193,7 @@ steps_are m t closed run =
 
 -- what holds of each thread's steps and of the lifts holds of them
 each_step : (m : Plan) (t : Trace) (closed : List Step) (run : IsRunOf m t closed) → EachStands m t run.rans → (P : Placed → Type 0)
-    → ((thread : ℕ) (r : Ran) → IsThread m t closed thread r → All P (steps_from thread (cpu_at m thread) 0 r.events.items)) → All P (lift_steps t.watch)
+    → ((thread : ℕ) (r : Ran) → IsThread m t closed thread r → All P (steps_from thread (cpu_of_thread m thread) 0 r.events.items)) → All P (lift_steps t.watch)
     → All P (steps_of t)
 each_step m t closed run stands P f lifts =
     subst (All P) (sym (steps_are m t closed run))
@@ -205,7 +205,7 @@ holds : (m : Plan) (t : Trace) (closed : List Step) (run : IsRunOf m t closed) �
 holds m t closed run stands =
     let threads : List Placed = placed_from m 0 run.rans in
     let lifts : List Placed = lift_steps t.watch in
-    let all : all_steps run.joined ≡ map numbered (steps_of t) =
+    let all : own_steps run.joined ≡ map numbered (steps_of t) =
     run.steps
     ∙ ap (λ (ss : List Step). ss ++ flat_map (λ (w : Watched). w.ended.view.mine) (listed run.watched))
     (placed_mine m (IsThread m t closed) (λ thread r h. h.shows.mine) 0 run.rans (all_threads m t closed run stands))

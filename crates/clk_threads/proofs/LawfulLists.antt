@@ -79,8 +79,8 @@ script_of c = (c.0, all_words c.1.script)
 abbrev reader_script : ReaderPlan → ℕ × List Word
 reader_script r = (count_of r.cpu, all_words r.script)
 
-abbrev pub cpu_at : Plan → ℕ → ℕ
-cpu_at m thread = (thread_at m thread).0
+abbrev pub cpu_of_thread : Plan → ℕ → ℕ
+cpu_of_thread m thread = (thread_at m thread).0
 
 pub threads_at : (m : Plan) → EachFrom (λ k s. thread_at m k ≡ s) 0 (threads_of m)
 threads_at m =
@@ -88,12 +88,12 @@ threads_at m =
     let e : 0 + k ≡ k = omega arith in
     ap (thread_at m) e ∙ get_or_default (threads_of m) k (0, []) d low)
 
-firsts : (m : Plan) (n : ℕ) (ss : List (ℕ × List Word)) → EachFrom (λ k s. thread_at m k ≡ s) n ss → EachFrom (λ k x. x ≡ cpu_at m k) n (map (λ s. s.0) ss)
+firsts : (m : Plan) (n : ℕ) (ss : List (ℕ × List Word)) → EachFrom (λ k s. thread_at m k ≡ s) n ss → EachFrom (λ k x. x ≡ cpu_of_thread m k) n (map (λ s. s.0) ss)
 firsts m n [] h = tt
 firsts m n (s ∷ ss) h = (sym (ap (λ (x : ℕ × List Word). x.0) h.0), firsts m (n + 1) ss h.1)
 
 -- the CPU of each
-pub cpus_at : (m : Plan) → EachFrom (λ k x. x ≡ cpu_at m k) 0 (map (λ s. s.0) (threads_of m))
+pub cpus_at : (m : Plan) → EachFrom (λ k x. x ≡ cpu_of_thread m k) 0 (map (λ s. s.0) (threads_of m))
 cpus_at m = firsts m 0 (threads_of m) (threads_at m)
 
 pub cpus_count : (m : Plan) → length (map (λ (s : ℕ × List Word). s.0) (threads_of m)) ≡ length (threads_of m)
@@ -104,7 +104,7 @@ script_numbers n [] = tt
 script_numbers n (c ∷ cs) = (refl, script_numbers (n + 1) cs)
 
 -- a CPU's own thread has its number
-pub owner_cpu : (m : Plan) (cpu : ℕ) → cpu < cpu_count m → cpu_at m cpu ≡ cpu
+pub owner_cpu : (m : Plan) (cpu : ℕ) → cpu < cpu_count m → cpu_of_thread m cpu ≡ cpu
 owner_cpu m cpu low =
     let scripts : List (ℕ × List Word) = map script_of (enumerate_from 0 m.cpu) in
     let count : length scripts ≡ cpu_count m = length-map (enumerate_from 0 m.cpu) script_of ∙ length-enumerate_from 0 m.cpu in
@@ -120,7 +120,7 @@ scripts_below top n (c ∷ cs) low =
     (scripts_below top (n + 1) cs (omega (arith, low)))
 
 -- each thread is on a CPU of the machine
-pub thread_cpu : (m : Plan) (thread : ℕ) → IsWithinLimits m → thread < length (threads_of m) → cpu_at m thread < cpu_count m
+pub thread_cpu : (m : Plan) (thread : ℕ) → IsWithinLimits m → thread < length (threads_of m) → cpu_of_thread m thread < cpu_count m
 thread_cpu m thread limits low =
     let Below : ℕ × List Word → Type 0 = λ s. s.0 < cpu_count m in
     let readers : All Below (map reader_script m.reader) =
@@ -146,31 +146,31 @@ own_each t rans e =
 
 abbrev pub placed_from : Plan → ℕ → List Ran → List Placed
 placed_from m n [] = []
-placed_from m n (r ∷ rans) = steps_from n (cpu_at m n) 0 r.events.items ++ placed_from m (n + 1) rans
+placed_from m n (r ∷ rans) = steps_from n (cpu_of_thread m n) 0 r.events.items ++ placed_from m (n + 1) rans
 
-pub placed_are : (m : Plan) (n : ℕ) (cpus : List ℕ) (rans : List Ran) → length rans ≡ length cpus → EachFrom (λ k x. x ≡ cpu_at m k) n cpus
+pub placed_are : (m : Plan) (n : ℕ) (cpus : List ℕ) (rans : List Ran) → length rans ≡ length cpus → EachFrom (λ k x. x ≡ cpu_of_thread m k) n cpus
     → all_steps n cpus (events_of rans) ≡ placed_from m n rans
 placed_are m n [] [] e h = refl
 placed_are m n [] (r ∷ rans) e h = absurd (omega (arith, e))
 placed_are m n (c ∷ cpus) [] e h = absurd (omega (arith, e))
 placed_are m n (c ∷ cpus) (r ∷ rans) e h =
     ap (λ k. steps_from n k 0 r.events.items ++ all_steps (n + 1) cpus (events_of rans)) h.0
-    ∙ ap (λ (ps : List Placed). steps_from n (cpu_at m n) 0 r.events.items ++ ps) (placed_are m (n + 1) cpus rans (omega (arith, e)) h.1)
+    ∙ ap (λ (ps : List Placed). steps_from n (cpu_of_thread m n) 0 r.events.items ++ ps) (placed_are m (n + 1) cpus rans (omega (arith, e)) h.1)
 
 -- what holds of each thread's steps holds of all
-pub placed_all : (m : Plan) (P : Placed → Type 0) (F : ℕ → Ran → Type 0) → ((k : ℕ) (r : Ran) → F k r → All P (steps_from k (cpu_at m k) 0 r.events.items))
+pub placed_all : (m : Plan) (P : Placed → Type 0) (F : ℕ → Ran → Type 0) → ((k : ℕ) (r : Ran) → F k r → All P (steps_from k (cpu_of_thread m k) 0 r.events.items))
     → (n : ℕ) (rans : List Ran) → EachFrom F n rans → All P (placed_from m n rans)
 placed_all m P F f n [] h = All-nil P
 placed_all m P F f n (r ∷ rans) h =
-    All-append P (steps_from n (cpu_at m n) 0 r.events.items) (placed_from m (n + 1) rans) (f n r h.0) (placed_all m P F f (n + 1) rans h.1)
+    All-append P (steps_from n (cpu_of_thread m n) 0 r.events.items) (placed_from m (n + 1) rans) (f n r h.0) (placed_all m P F f (n + 1) rans h.1)
 
 -- the words have them of the seats
 pub placed_mine : (m : Plan) (F : ℕ → Ran → Type 0)
-    → ((k : ℕ) (r : Ran) → F k r → r.ended.view.mine ≡ map numbered (steps_from k (cpu_at m k) 0 r.events.items))
+    → ((k : ℕ) (r : Ran) → F k r → r.ended.view.mine ≡ map numbered (steps_from k (cpu_of_thread m k) 0 r.events.items))
     → (n : ℕ) (rans : List Ran) → EachFrom F n rans → flat_map (λ (r : Ran). r.ended.view.mine) rans ≡ map numbered (placed_from m n rans)
 placed_mine m F f n [] h = refl
 placed_mine m F f n (r ∷ rans) h =
-    let here : List Placed = steps_from n (cpu_at m n) 0 r.events.items in
+    let here : List Placed = steps_from n (cpu_of_thread m n) 0 r.events.items in
     ap (λ (xs : List Step). xs ++ flat_map (λ (x : Ran). x.ended.view.mine) rans) (f n r h.0)
     ∙ ap (λ (xs : List Step). map numbered here ++ xs) (placed_mine m F f (n + 1) rans h.1)
     ∙ sym (map-append numbered here (placed_from m (n + 1) rans))

@@ -10,7 +10,7 @@ use Rattle.clk_words.specs.declared.step.Step.{Step}
 use Rattle.clk_words.specs.declared.step.Why.{Why}
 use Rattle.clk_words.specs.declared.step.Why.TheVariants.{Raise, Couple, Lift}
 use Rattle.clk_words.specs.declared.view.Part.{Part}
-use Rattle.clk_words.specs.Calls.{all_steps}
+use Rattle.clk_words.specs.Calls.{own_steps}
 use Rattle.clk_words.specs.Histories.{is_lift, IsInOrder, IsGlobalHistory}
 use Rattle.clk_words.specs.Parts.{gtod_of, raw_of, part_of}
 use Rattle.clk_machine.specs.Plan.{Plan, cpu_count, thread_at}
@@ -25,7 +25,7 @@ use Rattle.clk_trace.specs.declared.trace.Trace.{Trace}
 use Rattle.clk_worker.proofs.RunParts.{MayHave, zero_stays}
 use Rattle.clk_worker.proofs.RunSteps.{numbered}
 use Rattle.clk_threads.specs.Finishing.{Ran, RanWhole, KnowsNoMore, IsRunOf}
-use Rattle.clk_threads.proofs.LawfulLists.{cpu_at, thread_cpu}
+use Rattle.clk_threads.proofs.LawfulLists.{cpu_of_thread, thread_cpu}
 use Rattle.clk_threads.proofs.LawfulOpening.{mode_is, not_demoted}
 use Rattle.clk_threads.proofs.LawfulQuiet.{AreQuiet}
 use Rattle.clk_threads.proofs.LawfulStepless.{nil_left, nil_right, stepless_quiet}
@@ -160,7 +160,7 @@ each_nothing (r ∷ rans) e =
 
 -- of a thread of the run
 record RanHere (m : Plan) (t : Trace) (k : ℕ) (r : Ran) : Type 0 where
-  mine : r.ended.view.mine ≡ map numbered (steps_from k (cpu_at m k) 0 r.events.items)
+  mine : r.ended.view.mine ≡ map numbered (steps_from k (cpu_of_thread m k) 0 r.events.items)
   quiet : r.ended.view.mine ≡ [] → AreQuiet r.events.items
 
 no_steps : (ps : List Placed) → map numbered ps ≡ [] → ps ≡ []
@@ -171,14 +171,14 @@ ran_here : (m : Plan) (t : Trace) (closed : List Step) (run : IsRunOf m t closed
 ran_here m t closed run k d low =
     let r : Ran = get_or run.rans k d in
     let count = run.count in
-    let within : cpu_at m k < cpu_count m = thread_cpu m k run.limits (omega (arith, low, count)) in
+    let within : cpu_of_thread m k < cpu_count m = thread_cpu m k run.limits (omega (arith, low, count)) in
     let ran = each_of (RanWhole m t.boots.items t.ups.cpus.items (start_in m t) run.booted.seen) run.rans k d low run.each in
     let mine = (thread_has_run m t run.booted.seen k r within ran).mine in
     record {
       mine = mine;
       quiet = λ none.
-          stepless_quiet k (cpu_at m k) (thread_at m k).1 r.events.items ran.script
-          (no_steps (steps_from k (cpu_at m k) 0 r.events.items) (sym mine ∙ none));
+          stepless_quiet k (cpu_of_thread m k) (thread_at m k).1 r.events.items ran.script
+          (no_steps (steps_from k (cpu_of_thread m k) 0 r.events.items) (sym mine ∙ none));
     }
 
 -- in a run whose clock stays stable
@@ -187,10 +187,10 @@ none_moved : (m : Plan) (t : Trace) (closed : List Step) (run : IsRunOf m t clos
 none_moved m t closed run stable none =
     let start = start_in m t in
     let threads : List Step = flat_map (λ (r : Ran). r.ended.view.mine) run.rans in
-    let is : all_steps run.joined ≡ threads =
+    let is : own_steps run.joined ≡ threads =
     run.steps ∙ ap (λ (ss : List Step). threads ++ ss) (watch_nothing m t closed run none) ∙ append-nil threads in
     let plain : All IsPlain threads = plain_all run.rans (λ k d low.
-    plain_mine k (cpu_at m k) (get_or run.rans k d).events.items (get_or run.rans k d).ended.view.mine (ran_here m t closed run k d low).mine) in
+    plain_mine k (cpu_of_thread m k) (get_or run.rans k d).events.items (get_or run.rans k d).ended.view.mine (ran_here m t closed run k d low).mine) in
     let count : sum_by lift_count closed ≡ 0 = run.complete.once lift_count ∙ ap (sum_by lift_count) is ∙ plain_sum threads plain in
     let some = (cpus_few m run.limits).0 in
     let mode = mode_is m t closed run ∙ ap (λ (b : Bool). if b then Stable else PerCpu) stable in

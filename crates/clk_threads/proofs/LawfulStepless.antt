@@ -6,7 +6,7 @@ use Rattle.std.proofs.lemmas.List.Elements.{All-nil, All-cons}
 use Rattle.clk_machine.specs.declared.script.Word.{Word}
 use Rattle.clk_machine.specs.declared.script.Word.TheVariants as word
 use Rattle.clk_machine.specs.Plan.{count_of}
-use Rattle.clk_trace.specs.ScriptEvents.{IsReading, IsRemoteReading, IsTick, IsUpdate, IsPause, Calls, events_at, AreEventsOf}
+use Rattle.clk_trace.specs.ScriptEvents.{IsOwnReading, IsRemoteReading, IsTick, IsUpdate, IsPause, Calls, events_at, AreEventsOf}
 use Rattle.clk_trace.specs.WordHistory.{steps_of_kind, steps_from}
 use Rattle.clk_trace.specs.declared.event.Event.{Event}
 use Rattle.clk_trace.specs.declared.event.EventKind.{EventKind}
@@ -64,7 +64,7 @@ abbrev AreQuietKinds : List EventKind → Type 0
 AreQuietKinds [] = Unit {0}
 AreQuietKinds (k ∷ ks) = IsQuiet k × AreQuietKinds ks
 
-reading_quiet : (ks : List EventKind) → AreStepless ks → IsReading ks → AreQuietKinds ks
+reading_quiet : (ks : List EventKind) → AreStepless ks → IsOwnReading ks → AreQuietKinds ks
 reading_quiet [] p h = absurd h
 reading_quiet (Stable raw value ∷ []) p h = (tt, tt)
 reading_quiet (Stable raw value ∷ k ∷ ks) p h = absurd h
@@ -130,7 +130,7 @@ word_quiet : (cpu : ℕ) (u : Word) (ks : List EventKind) → AreStepless ks →
 word_quiet cpu word.Local ks p h = reading_quiet ks p h
 word_quiet cpu (word.Remote d) ks p h = at (nat_eq (count_of d) cpu) h
   where
-    at : (b : Bool) → MatchBool b (IsReading ks) (IsRemoteReading (count_of d) ks) → AreQuietKinds ks
+    at : (b : Bool) → MatchBool b (IsOwnReading ks) (IsRemoteReading (count_of d) ks) → AreQuietKinds ks
     at true r = reading_quiet ks p r
     at false r = remote_quiet (count_of d) ks p r
 word_quiet cpu word.Tick ks p h = tick_quiet ks p h

@@ -44,7 +44,7 @@ use Rattle.clk_worker.proofs.RunThread.{IsFresh, HasRun, has_run, OwnerHasRun, o
 use Rattle.clk_threads.specs.Booting.{sched_offset_of}
 use Rattle.clk_threads.specs.Preparing.{start_of}
 use Rattle.clk_threads.specs.Finishing.{Ran, site_on, RanWhole, FollowsOwner, IsRunOf}
-use Rattle.clk_threads.proofs.LawfulLists.{cpu_at, owner_cpu, thread_cpu, own_each}
+use Rattle.clk_threads.proofs.LawfulLists.{cpu_of_thread, owner_cpu, thread_cpu, own_each}
 use Rattle.clk_threads.proofs.LawfulOpening.{stable_mode}
 use Rattle.clk_threads.proofs.LawfulQuiet.{AreQuiet, quiet_pairs, quiet_stamps, with_percpu, quiet_modes}
 use Rattle.clk_threads.proofs.LawfulTickets.{runs_rise, first_low}
@@ -71,15 +71,15 @@ Stands t cpu r = GoesBy t cpu r ⊎ AreQuiet r.events.items
 -- begins with what it has seen; what it knew of its CPU's records and stamps begins all of them, and a CPU's own thread
 -- has them all; the words began at the trace's opening, and stable only where the trace does
 pub record IsThread (m : Plan) (t : Trace) (closed : List Step) (thread : ℕ) (r : Ran) : Type 0 where
-  pub script : AreEventsOf (cpu_at m thread) 0 (thread_at m thread).1 r.events.items
+  pub script : AreEventsOf (cpu_of_thread m thread) 0 (thread_at m thread).1 r.events.items
   pub blocks : r.ended.time.blocks ≡ thread_blocks r.events
   pub rises : RisesFrom (top_of 0 (first_blocks t)) (thread_blocks r.events)
-  pub shows : HasRun (site_in m t (cpu_at m thread)) (start_in m t) thread r.began r.events.items r.ended
-  pub low : cpu_at m thread < cpu_count m
+  pub shows : HasRun (site_in m t (cpu_of_thread m thread)) (start_in m t) thread r.began r.events.items r.ended
+  pub low : cpu_of_thread m thread < cpu_count m
   pub begins : Begins r.ended.view.seen closed
-  pub records : IsPrefix (records_in r.ended) (records_of m t (cpu_at m thread))
-  pub stands : Stands t (cpu_at m thread) r
-  pub stamps : GoesBy t (cpu_at m thread) r → KnowsStamps (cpu_at m thread) r.ended.view.pairs (stamps_of t (cpu_at m thread))
+  pub records : IsPrefix (records_in r.ended) (records_of m t (cpu_of_thread m thread))
+  pub stands : Stands t (cpu_of_thread m thread) r
+  pub stamps : GoesBy t (cpu_of_thread m thread) r → KnowsStamps (cpu_of_thread m thread) r.ended.view.pairs (stamps_of t (cpu_of_thread m thread))
   pub owns : thread < cpu_count m → OwnerHasRun (site_in m t thread) (start_in m t) r.events.items r.ended
   pub legal : IsGlobalHistory (start_in m t) closed
   pub opens : t.start_word ≡ opens_at (start_in m t)
@@ -94,12 +94,12 @@ rises_after : (m : Plan) (t : Trace) (closed : List Step) (run : IsRunOf m t clo
 rises_after m t closed run thread r ran =
     let booted = first_low m t closed run in
     let later = ran.later in
-    runs_rise (site_in m t (cpu_at m thread)) r.began r.events.items r.ended (top_of 0 (first_blocks t)) ran.runs (omega (arith, booted, later))
+    runs_rise (site_in m t (cpu_of_thread m thread)) r.began r.events.items r.ended (top_of 0 (first_blocks t)) ran.runs (omega (arith, booted, later))
 
 -- ---- it ran from fresh seats
 
-fresh : (m : Plan) (t : Trace) (low thread : ℕ) (r : Ran) → cpu_at m thread < cpu_count m
-    → RanWhole m t.boots.items t.ups.cpus.items (start_in m t) low thread r → IsFresh (site_in m t (cpu_at m thread)) (start_in m t) thread r.began
+fresh : (m : Plan) (t : Trace) (low thread : ℕ) (r : Ran) → cpu_of_thread m thread < cpu_count m
+    → RanWhole m t.boots.items t.ups.cpus.items (start_in m t) low thread r → IsFresh (site_in m t (cpu_of_thread m thread)) (start_in m t) thread r.began
 fresh m t low thread r within ran =
     record {
       home = record {
@@ -116,21 +116,21 @@ fresh m t low thread r within ran =
       offset = ran.given.offset_is;
     }
 
-pub thread_has_run : (m : Plan) (t : Trace) (low thread : ℕ) (r : Ran) → cpu_at m thread < cpu_count m
+pub thread_has_run : (m : Plan) (t : Trace) (low thread : ℕ) (r : Ran) → cpu_of_thread m thread < cpu_count m
     → RanWhole m t.boots.items t.ups.cpus.items (start_in m t) low thread r
-    → HasRun (site_in m t (cpu_at m thread)) (start_in m t) thread r.began r.events.items r.ended
+    → HasRun (site_in m t (cpu_of_thread m thread)) (start_in m t) thread r.began r.events.items r.ended
 thread_has_run m t low thread r within ran =
-    has_run (site_in m t (cpu_at m thread)) (start_in m t) thread r.began r.events.items r.ended (fresh m t low thread r within ran) ran.runs
+    has_run (site_in m t (cpu_of_thread m thread)) (start_in m t) thread r.began r.events.items r.ended (fresh m t low thread r within ran) ran.runs
 
 -- a CPU's own thread owns its latch and its pair
 owner_ran : (m : Plan) (t : Trace) (low cpu : ℕ) (r : Ran) → cpu < cpu_count m → RanWhole m t.boots.items t.ups.cpus.items (start_in m t) low cpu r
     → OwnerHasRun (site_in m t cpu) (start_in m t) r.events.items r.ended
 owner_ran m t low cpu r within ran =
     let start = start_in m t in
-    let here : cpu_at m cpu ≡ cpu = owner_cpu m cpu within in
-    let below : cpu_at m cpu < cpu_count m = subst (λ k. k < cpu_count m) (sym here) within in
+    let here : cpu_of_thread m cpu ≡ cpu = owner_cpu m cpu within in
+    let below : cpu_of_thread m cpu < cpu_count m = subst (λ k. k < cpu_count m) (sym here) within in
     subst (λ k. OwnerHasRun (site_in m t k) start r.events.items r.ended) here
-    (owner_has_run (site_in m t (cpu_at m cpu)) start cpu r.began r.events.items r.ended (fresh m t low cpu r below ran)
+    (owner_has_run (site_in m t (cpu_of_thread m cpu)) start cpu r.began r.events.items r.ended (fresh m t low cpu r below ran)
     (ran.owner ∙ own_thread m cpu within) (ran.given.owns_is ∙ ap owned_by (kind_owner m cpu within ∙ ap Owner (sym here))) ran.runs)
 
 -- ---- what it knows of its CPU
@@ -175,10 +175,10 @@ knows_stamps m t cpu rans r follows owner goes =
 -- ---- all threads of a run are such
 
 is_thread : (m : Plan) (t : Trace) (closed : List Step) (run : IsRunOf m t closed) (thread : ℕ) (r : Ran) → thread < length run.rans
-    → RanWhole m t.boots.items t.ups.cpus.items (start_in m t) run.booted.seen thread r → FollowsOwner (cpu_at m thread) run.rans r
-    → Begins r.ended.view.seen closed → Stands t (cpu_at m thread) r → IsThread m t closed thread r
+    → RanWhole m t.boots.items t.ups.cpus.items (start_in m t) run.booted.seen thread r → FollowsOwner (cpu_of_thread m thread) run.rans r
+    → Begins r.ended.view.seen closed → Stands t (cpu_of_thread m thread) r → IsThread m t closed thread r
 is_thread m t closed run thread r within ran follows begins stands =
-    let cpu : ℕ = cpu_at m thread in
+    let cpu : ℕ = cpu_of_thread m thread in
     let count = run.count in
     let cover = threads_cover m in
     let low : cpu < cpu_count m = thread_cpu m thread run.limits (omega (arith, within, count)) in
@@ -204,12 +204,12 @@ is_thread m t closed run thread r within ran follows begins stands =
 
 -- what is known of each thread and its number
 abbrev pub EachStands : Plan → Trace → List Ran → Type 0
-EachStands m t rans = EachFrom (λ k r. Stands t (cpu_at m k) r) 0 rans
+EachStands m t rans = EachFrom (λ k r. Stands t (cpu_of_thread m k) r) 0 rans
 
 are_threads : (m : Plan) (t : Trace) (closed : List Step) (run : IsRunOf m t closed) (n : ℕ) (rans : List Ran) → EachFrom (λ k r. k < length run.rans) n rans
     → EachFrom (λ k r. RanWhole m t.boots.items t.ups.cpus.items (start_in m t) run.booted.seen k r) n rans
-    → EachFrom (λ k r. FollowsOwner (cpu_at m k) run.rans r) n rans → EachFrom (λ k r. Begins r.ended.view.seen closed) n rans
-    → EachFrom (λ k r. Stands t (cpu_at m k) r) n rans → EachFrom (IsThread m t closed) n rans
+    → EachFrom (λ k r. FollowsOwner (cpu_of_thread m k) run.rans r) n rans → EachFrom (λ k r. Begins r.ended.view.seen closed) n rans
+    → EachFrom (λ k r. Stands t (cpu_of_thread m k) r) n rans → EachFrom (IsThread m t closed) n rans
 are_threads m t closed run n [] low ran follows begins stands = tt
 are_threads m t closed run n (r ∷ rans) low ran follows begins stands = (
   is_thread m t closed run n r low.0 ran.0 follows.0 begins.0 stands.0,
@@ -226,9 +226,9 @@ all_threads m t closed run stands =
 -- ---- what its events show, in the terms of the trace
 
 pub thread_right : (m : Plan) (t : Trace) (closed : List Step) (thread : ℕ) (r : Ran) → IsThread m t closed thread r
-    → All (λ e. IsRightKind m (cpu_at m thread) (adjust_of t (cpu_at m thread)) (records_of m t (cpu_at m thread)) e.kind) r.events.items
+    → All (λ e. IsRightKind m (cpu_of_thread m thread) (adjust_of t (cpu_of_thread m thread)) (records_of m t (cpu_of_thread m thread)) e.kind) r.events.items
 thread_right m t closed thread r h =
-    let cpu : ℕ = cpu_at m thread in
+    let cpu : ℕ = cpu_of_thread m thread in
     let adjust : ℤ = adjust_of t cpu in
     All-weaker (λ (e : Event). IsRightKind m cpu adjust (records_in r.ended) e.kind) (λ (e : Event). IsRightKind m cpu adjust (records_of m t cpu) e.kind)
     (λ e right. right_more m cpu adjust (records_in r.ended) (records_of m t cpu) e.kind h.records right) r.events.items h.shows.right
@@ -250,10 +250,10 @@ owner_names m t closed cpu r h low =
 
 -- any thread names stamps of its CPU, none older than before
 pub thread_stamps : (m : Plan) (t : Trace) (closed : List Step) (thread : ℕ) (r : Ran) → IsThread m t closed thread r
-    → Along (λ n e. NamesStamps (stamps_of t (cpu_at m thread)) (standing_offset t) n e.kind) (λ n e. numbers_after (stamps_of t (cpu_at m thread)) n e.kind)
+    → Along (λ n e. NamesStamps (stamps_of t (cpu_of_thread m thread)) (standing_offset t) n e.kind) (λ n e. numbers_after (stamps_of t (cpu_of_thread m thread)) n e.kind)
     first_numbers r.events.items
 thread_stamps m t closed thread r h =
-    let stamps : List Pair = stamps_of t (cpu_at m thread) in
+    let stamps : List Pair = stamps_of t (cpu_of_thread m thread) in
     elim h.stands [
       | inl goes ↦ h.shows.stamps stamps (standing_offset t) (h.stamps goes) goes.stands.offset_is
       | inr quiet ↦ quiet_stamps stamps (standing_offset t) first_numbers r.events.items quiet
@@ -263,7 +263,7 @@ thread_stamps m t closed thread r h =
 pub thread_modes : (m : Plan) (t : Trace) (closed : List Step) (thread : ℕ) (r : Ran) → IsThread m t closed thread r
     → AreOfMode (modes_of t) t.sched_offset false r.events.items
 thread_modes m t closed thread r h =
-    let z = site_in m t (cpu_at m thread) in
+    let z = site_in m t (cpu_of_thread m thread) in
     elim h.stands [
       | inl goes ↦
           h.shows.modes (modes_of t) t.sched_offset (record { stable = λ stable. (h.stable stable, h.sched); percpu = λ found. goes.percpu })
@@ -274,11 +274,11 @@ thread_modes m t closed thread r h =
 
 -- each of its steps is on a word of the machine
 pub thread_below : (m : Plan) (t : Trace) (closed : List Step) (thread : ℕ) (r : Ran) → IsThread m t closed thread r
-    → All (λ p. p.step.word < cpu_count m) (steps_from thread (cpu_at m thread) 0 r.events.items)
-thread_below m t closed thread r h = steps_below (cpu_count m) thread (cpu_at m thread) 0 r.events.items h.low h.shows.below
+    → All (λ p. p.step.word < cpu_count m) (steps_from thread (cpu_of_thread m thread) 0 r.events.items)
+thread_below m t closed thread r h = steps_below (cpu_count m) thread (cpu_of_thread m thread) 0 r.events.items h.low h.shows.below
 
 -- and none falls below what the thread has seen, by where the words stood
 pub thread_never_falls : (m : Plan) (t : Trace) (closed : List Step) → StoodAt (start_in m t) closed (stood_at t) → (thread : ℕ) (r : Ran) → IsThread m t closed thread r
-    → NeverFalls t.start_word (stood_at t) (cpu_at m thread) [] r.events.items
+    → NeverFalls t.start_word (stood_at t) (cpu_of_thread m thread) [] r.events.items
 thread_never_falls m t closed stood thread r h =
-    subst (λ o. NeverFalls o (stood_at t) (cpu_at m thread) [] r.events.items) (sym h.opens) (h.shows.seen closed (stood_at t) h.begins h.legal stood)
+    subst (λ o. NeverFalls o (stood_at t) (cpu_of_thread m thread) [] r.events.items) (sym h.opens) (h.shows.seen closed (stood_at t) h.begins h.legal stood)

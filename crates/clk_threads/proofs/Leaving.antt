@@ -25,6 +25,7 @@ use Rattle.clk_local.specs.Context.{Known}
 use Rattle.clk_trace.specs.ScriptEvents.{AreEventsOf}
 use Rattle.clk_trace.specs.declared.event.Event.{Event}
 use Rattle.clk_worker.specs.declared.own.Own.{Own}
+use Rattle.clk_worker.specs.declared.own.Post.{Post}
 use Rattle.clk_worker.specs.Calling.{site_at, has}
 use Rattle.clk_worker.specs.Making.{Hand, script_of, HasMade, IsGoing}
 use Rattle.clk_worker.proofs.Making.{begins}
@@ -33,8 +34,8 @@ use Rattle.clk_worker.proofs.RunThread.{has_run}
 use Rattle.clk_worker.proofs.RunThread.{IsFresh as IsFreshThread, HasRun as HasShown}
 use Rattle.clk_threads.specs.Preparing.{start_of, kind_on, thread_seat, time_seat, no_events, IsPrepared}
 use Rattle.clk_threads.specs.Finishing.{Ran, events_of, IsGiven, site_on, RanWhole}
-use Rattle.clk_threads.specs.Workers.{HasRun}
-use Rattle.clk_threads.specs.Ending.{shared_of, own_list, owns_of, MayJoin, FitsLatch}
+use Rattle.clk_threads.specs.Parts.{shared_of}
+use Rattle.clk_threads.specs.Ending.{own_list, owns_of, MayJoin, FitsLatch}
 use Rattle.clk_threads.specs.declared.prepared.Prepared.{Prepared}
 use Rattle.clk_threads.proofs.Beginning.{fresh_own, post_at, IsFresh, given_all, may_begin}
 use Rattle.clk_threads.proofs.Giving.{not_watch}
@@ -56,15 +57,14 @@ going_first p ip thread h low f =
     subst (λ (x : Hand). IsGoing (shared_of p) x x) (sym f.hand)
     (begins (post_at p thread) (fresh_own p ip.booted f.latch thread) (no_events (thread_at p.machine thread)) (shared_of p) (may_begin p ip f.latch thread low f.there))
 
-pub has_left : (p : Prepared) (ip : IsPrepared p.machine p) (thread : ℕ) (h w : Hand) → thread < length (threads_of p.machine)
-    → IsFresh p ip.booted thread h → HasRun (shared_of p) h w → HasLeft p ip.booted thread w
-has_left p ip thread h w low f ran =
-    let g : IsGoing (shared_of p) h w = ran.went h (going_first p ip thread h low f) in
+pub has_left : (p : Prepared) (ip : IsPrepared p.machine p) (thread : ℕ) (h w : Hand)
+    → IsFresh p ip.booted thread h → IsGoing (shared_of p) h w → w.next ≡ length (script_of (shared_of p) w.post) → HasLeft p ip.booted thread w
+has_left p ip thread h w f g whole =
     let o : Own = fresh_own p ip.booted f.latch thread in
     let began : g.began ≡ o =
     (let first = g.began_is in let is = ap (λ (x : Hand). x.own) f.hand in some_is g.began o (sym first ∙ is)) in
     let post : w.post ≡ post_at p thread = g.post ∙ ap (λ (x : Hand). x.post) f.hand in
-    let next : w.next ≡ length (thread_at p.machine thread).1 = ran.next ∙ ap (λ (x : Hand). length (script_of (shared_of p) x.post)) f.hand in
+    let next : w.next ≡ length (thread_at p.machine thread).1 = whole ∙ ap (λ (q : Post). length (script_of (shared_of p) q)) post in
     let at_post = subst (λ (q : _). HasMade (shared_of p) q g.began w.next g.own w.events) post g.made in
     let from_own = subst (λ (x : Own). HasMade (shared_of p) (post_at p thread) x w.next g.own w.events) began at_post in
     record {

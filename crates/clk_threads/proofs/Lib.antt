@@ -28,6 +28,8 @@ pub mod WatchLeaving
 pub mod Rooms
 pub mod WatchRooms
 pub mod Closing
+pub mod Taking
+pub mod Halfway
 pub mod Opening
 pub mod Sent
 pub mod Lasts

@@ -6,7 +6,7 @@ use Rattle.std.proofs.lemmas.List.Elements.{All-nil, All-cons, All-head, All-tai
 use Rattle.clk_base.specs.Walk.{EachFrom}
 use Rattle.clk_words.specs.declared.kind.SeatKind.TheVariants.{Owner, Reader}
 use Rattle.clk_words.specs.Kinds.{cpu_of}
-use Rattle.clk_words.specs.Knowing.{IsReading}
+use Rattle.clk_words.specs.Knowing.{IsReadingKind}
 use Rattle.clk_machine.specs.declared.script.Word.{Word}
 use Rattle.clk_machine.specs.declared.script.Word.TheVariants as word
 use Rattle.clk_machine.specs.Plan.{Plan, CpuPlan, ReaderPlan, count_of, cpu_count, all_words, thread_at, threads_of}
@@ -71,11 +71,11 @@ kind_cpu m thread =
       | inr past ↦ ap cpu_of (kind_reader m thread past)
     ]
 
-pub kind_reads : (m : Plan) (thread : ℕ) → IsReading (kind_on m thread)
+pub kind_reads : (m : Plan) (thread : ℕ) → IsReadingKind (kind_on m thread)
 kind_reads m thread =
     elim (cases_lt thread (cpu_count m)) [
-      | inl low ↦ subst IsReading (sym (kind_owner m thread low)) tt
-      | inr past ↦ subst IsReading (sym (kind_reader m thread past)) tt
+      | inl low ↦ subst IsReadingKind (sym (kind_owner m thread low)) tt
+      | inr past ↦ subst IsReadingKind (sym (kind_reader m thread past)) tt
     ]
 
 -- ---- the updates of a script

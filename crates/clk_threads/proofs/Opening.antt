@@ -8,7 +8,7 @@ use Rattle.clk_adjust.specs.declared.up.CpuUp.{CpuUp}
 use Rattle.clk_demote.specs.declared.events.StableStamp.{StableStamp}
 use Rattle.clk_threads.specs.Preparing.{thread_seat, thread_seats, watch_seat, watch_time, time_seat, no_events, empty_watch, IsPrepared}
 use Rattle.clk_threads.specs.Workers.{HaveSeats, HaveWatchSeats}
-use Rattle.clk_threads.specs.Ending.{seats_of, watch_seats_of}
+use Rattle.clk_threads.specs.Parts.{seats_of, watch_seats_of}
 use Rattle.clk_threads.specs.declared.prepared.Prepared.{Prepared}
 use Rattle.clk_threads.proofs.Built.{built_count}
 use Rattle.clk_threads.proofs.Lasts.{some_stamps}
@@ -44,7 +44,7 @@ pub same_offsets : (p : Prepared) → IsPrepared p.machine p → All (λ (s : St
 same_offsets p ip = subst (λ (o : ℤ). All (λ (s : StableStamp). s.offset ≡ o) p.stamps.items) (sym ip.gtod_offset) ip.stamps.offsets
 
 -- the watchdog has all of its seats and lists, or none
-is_some_by : {A : Type 0} (b : Bool) (x : A) → is_some (cond b (Some x) None) ≡ b
+pub is_some_by : {A : Type 0} (b : Bool) (x : A) → is_some (cond b (Some x) None) ≡ b
 is_some_by true x = refl
 is_some_by false x = refl
 

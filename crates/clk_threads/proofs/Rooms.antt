@@ -16,8 +16,8 @@ use Rattle.clk_machine.specs.Steps.{on_word, steps_for}
 use Rattle.clk_words.specs.declared.step.Why.TheVariants as why
 use Rattle.clk_trace.specs.Couples.{CouplesLower, named_word, named_value}
 use Rattle.clk_trace.specs.Filling.{NamesWordsBelow, MayFill, lines_on}
-use Rattle.clk_trace.specs.ScriptEvents.{IsReading, IsRemoteReading, IsTick, IsUpdate, IsPause, Calls, events_at, AreEventsOf}
-use Rattle.clk_trace.specs.WordHistory.{Placed, steps_of_kind, steps_from, all_steps, lift_steps, steps_on, line_of}
+use Rattle.clk_trace.specs.ScriptEvents.{IsOwnReading, IsRemoteReading, IsTick, IsUpdate, IsPause, Calls, events_at, AreEventsOf}
+use Rattle.clk_trace.specs.WordHistory.{Placed, steps_of_kind, steps_from, all_steps, lift_steps, placed_on, line_of}
 use Rattle.clk_trace.specs.declared.event.Event.{Event}
 use Rattle.clk_trace.specs.declared.event.EventKind.{EventKind}
 use Rattle.clk_trace.specs.declared.event.EventKind.TheVariants.{Stable, Local, Couple, Stamp, Nothing, Update, Pause}
@@ -58,7 +58,7 @@ lower_on : (w cpu asked v : ℕ) (b : Bool) → v ≡ cond b asked cpu → on_wo
 lower_on w cpu asked v true e = rw e (omega arith)
 lower_on w cpu asked v false e = rw e (omega arith)
 
-kind_steps : (w thread cpu call part : ℕ) (k : EventKind) → CouplesLower cpu k → length (steps_on w (steps_of_kind thread cpu call part k)) ≤ kind_room w cpu k
+kind_steps : (w thread cpu call part : ℕ) (k : EventKind) → CouplesLower cpu k → length (placed_on w (steps_of_kind thread cpu call part k)) ≤ kind_room w cpu k
 kind_steps w thread cpu call part (Stable raw value) h = omega arith
 kind_steps w thread cpu call part (Local raw tick_raw tick_gtod offset old new) h =
     one_step w cpu
@@ -84,14 +84,14 @@ events_room w cpu [] = 0
 events_room w cpu (e ∷ es) = kind_room w cpu e.kind + events_room w cpu es
 
 event_steps : (w thread cpu part : ℕ) (es : List Event) → All (λ e. CouplesLower cpu e.kind) es
-    → length (steps_on w (steps_from thread cpu part es)) ≤ events_room w cpu es
+    → length (placed_on w (steps_from thread cpu part es)) ≤ events_room w cpu es
 event_steps w thread cpu part [] h = omega arith
 event_steps w thread cpu part (e ∷ es) h =
     let On : Placed → Bool = λ p. nat_eq p.step.word w in
     let here = kind_steps w thread cpu e.call part e.kind (All-head (λ (x : Event). CouplesLower cpu x.kind) e es h) in
     let rest = event_steps w thread cpu (part + 1) es (All-tail (λ (x : Event). CouplesLower cpu x.kind) e es h) in
     let both = ap length (filter-append On (steps_of_kind thread cpu e.call part e.kind) (steps_from thread cpu (part + 1) es)) in
-    let sum = length-append (steps_on w (steps_of_kind thread cpu e.call part e.kind)) (steps_on w (steps_from thread cpu (part + 1) es)) in
+    let sum = length-append (placed_on w (steps_of_kind thread cpu e.call part e.kind)) (placed_on w (steps_from thread cpu (part + 1) es)) in
     omega (arith, here, rest, both, sum)
 
 -- ---- what a script calls for
@@ -100,7 +100,7 @@ abbrev kinds_room : ℕ → ℕ → List EventKind → ℕ
 kinds_room w cpu [] = 0
 kinds_room w cpu (k ∷ ks) = kind_room w cpu k + kinds_room w cpu ks
 
-reading_room : (w cpu : ℕ) (ks : List EventKind) → IsReading ks → kinds_room w cpu ks ≤ on_word cpu w
+reading_room : (w cpu : ℕ) (ks : List EventKind) → IsOwnReading ks → kinds_room w cpu ks ≤ on_word cpu w
 reading_room w cpu [] h = absurd h
 reading_room w cpu (Stable raw value ∷ []) h = omega arith
 reading_room w cpu (Stable raw value ∷ k ∷ ks) h = absurd h
@@ -176,7 +176,7 @@ word_room : (w cpu : ℕ) (u : Word) (ks : List EventKind) → Calls cpu u ks �
 word_room w cpu word.Local ks h = reading_room w cpu ks h
 word_room w cpu (word.Remote d) ks h = at (nat_eq (count_of d) cpu) h
   where
-    at : (b : Bool) → MatchBool b (IsReading ks) (IsRemoteReading (count_of d) ks)
+    at : (b : Bool) → MatchBool b (IsOwnReading ks) (IsRemoteReading (count_of d) ks)
         → kinds_room w cpu ks ≤ on_word cpu w + (on_word cpu w + on_word (count_of d) w)
     at true r = let one = reading_room w cpu ks r in omega (arith, one)
     at false r = remote_room w cpu (count_of d) ks r
@@ -223,7 +223,7 @@ fits_in p ip thread h low l =
 
 threads_room : (m : Plan) (w n : ℕ) (ts : List (ℕ × List Word)) (threads : List (Listed Event)) → length threads ≡ length ts
     → EachFrom (λ k t. thread_at m k ≡ t) n ts → EachFrom (FitsIn m) n threads
-    → length (steps_on w (all_steps n (map (λ (t : ℕ × List Word). t.0) ts) threads)) ≤ sum_by (λ (t : ℕ × List Word). sum_by (steps_for w t.0) t.1) ts
+    → length (placed_on w (all_steps n (map (λ (t : ℕ × List Word). t.0) ts) threads)) ≤ sum_by (λ (t : ℕ × List Word). sum_by (steps_for w t.0) t.1) ts
 threads_room m w n [] threads count at fits = omega arith
 threads_room m w n (t ∷ ts) [] count at fits = absurd (omega (arith, count))
 threads_room m w n (t ∷ ts) (es ∷ threads) count at fits =
@@ -235,7 +235,7 @@ threads_room m w n (t ∷ ts) (es ∷ threads) count at fits =
     let called = script_room w t.0 0 t.1 es.items script in
     let rest = threads_room m w (n + 1) ts threads (omega (arith, count)) at.1 fits.1 in
     let both = ap length (filter-append On (steps_from n t.0 0 es.items) (all_steps (n + 1) cpus threads)) in
-    let sum = length-append (steps_on w (steps_from n t.0 0 es.items)) (steps_on w (all_steps (n + 1) cpus threads)) in
+    let sum = length-append (placed_on w (steps_from n t.0 0 es.items)) (placed_on w (all_steps (n + 1) cpus threads)) in
     let sums = sum_by-cons (λ (x : ℕ × List Word). sum_by (steps_for w x.0) x.1) t ts in
     omega (arith, here, called, rest, both, sum, sums)
 
@@ -295,8 +295,8 @@ may_fill p ip threads watch tickets count fits lifts number =
           let lifted = lifts.few w in
           let made : List Placed = all_steps 0 cpus threads.items in
           let cpus_are = ap (λ (cs : List ℕ). length (lines_on w (all_steps 0 cs threads.items ++ lift_steps watch))) lists.cpu_of in
-          let lines = length-map (steps_on w (made ++ lift_steps watch)) line_of in
+          let lines = length-map (placed_on w (made ++ lift_steps watch)) line_of in
           let both = ap length (filter-append (λ (x : Placed). nat_eq x.step.word w) made (lift_steps watch)) in
-          let sum = length-append (steps_on w made) (steps_on w (lift_steps watch)) in
+          let sum = length-append (placed_on w made) (placed_on w (lift_steps watch)) in
           omega (arith, room, few, lifted, cpus_are, lines, both, sum);
     }

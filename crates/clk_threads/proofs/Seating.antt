@@ -1,13 +1,14 @@
 -- Workers are made of seats, from the last thread on.
-use Rattle.std.proofs.Common.{◌≡◌, ℕ, ◌+◌, ℤ, List, [], ◌∷◌, ◌++◌, length, get_or, append_assoc, length-append, sym, ap, ◌∙◌, subst, refl, arith}
+use Rattle.std.proofs.Common.{◌≡◌, ℕ, ◌+◌, ℤ, List, [], ◌∷◌, ◌++◌, length, get_or, append_assoc, length-append, Option, Some, sym, ap, ◌∙◌, subst, refl, arith}
 use Rattle.std.specs.Prelude.{reverse}
 use Rattle.std.proofs.Math.Seq.{get_or-append_seam}
-use Rattle.std.proofs.lemmas.List.{reverse-append}
+use Rattle.std.proofs.lemmas.List.{map-append, length-map, length-reverse, reverse-append}
 use Rattle.clk_base.specs.Walk.{EachFrom}
 use Rattle.clk_words.specs.Fronts.{Begins}
 use Rattle.clk_machine.specs.Plan.{Plan}
 use Rattle.clk_worker.specs.Making.{Hand}
-use Rattle.clk_threads.specs.Workers.{HaveSeats, IsOfLast, IsOfSeats}
+use Rattle.clk_words.proofs.Fronts.{begins_self}
+use Rattle.clk_threads.specs.Workers.{HaveSeats, IsOfLast, IsOfSeats, all_there, AreInSlots}
 use Rattle.clk_threads.specs.declared.workers.Seats.{Seats}
 
 -- ---- a list of which the last item is cut
@@ -86,4 +87,61 @@ way_more m adjusts off s0 v w hands h o l =
       each =
           subst (EachFrom P n) (sym (reverse-append hands (h ∷ [])))
           (last_of m adjusts off s0 v w hands h o l, subst (λ (k : ℕ). EachFrom P k (reverse hands)) (sym one_less) o.each);
+    }
+
+-- ---- in their slots
+
+pub record AreSlotsOnWay (m : Plan) (adjusts : List ℤ) (off : ℤ) (s0 s : Seats) (slots : List (Option Hand)) : Type 0 where
+  pub hands : List Hand
+  pub there : slots ≡ all_there hands
+  pub way : AreOnWay m adjusts off s0 s hands
+
+pub slots_none : (m : Plan) (adjusts : List ℤ) (off : ℤ) (s : Seats) (slots : List (Option Hand)) → HaveSeats (length s.seats.items) s → slots ≡ []
+    → AreSlotsOnWay m adjusts off s s slots
+slots_none m adjusts off s slots seats empty =
+    record {
+      hands = [];
+      there = empty;
+      way = record {
+        all = seats;
+        there = seats;
+        seats_left = begins_self s.seats.items;
+        latches = begins_self s.latches.items;
+        times = begins_self s.times.items;
+        events = begins_self s.events.items;
+        count = omega arith;
+        each = tt;
+      };
+    }
+
+pub slots_more : (m : Plan) (adjusts : List ℤ) (off : ℤ) (s0 v w : Seats) (slots more : List (Option Hand)) (h : Hand) → AreSlotsOnWay m adjusts off s0 v slots
+    → IsOfLast m adjusts off v w h → more ≡ slots ++ Some h ∷ [] → AreSlotsOnWay m adjusts off s0 w more
+slots_more m adjusts off s0 v w slots more h o l e =
+    record {
+      hands = o.hands ++ h ∷ [];
+      there = e ∙ ap (λ (xs : List (Option Hand)). xs ++ Some h ∷ []) o.there ∙ sym (map-append (λ (x : Hand). Some x) o.hands (h ∷ []));
+      way = way_more m adjusts off s0 v w o.hands h o.way l;
+    }
+
+there_reversed : (hands : List Hand) → reverse (all_there hands) ≡ all_there (reverse hands)
+there_reversed [] = refl
+there_reversed (h ∷ hands) =
+    reverse-append (Some h ∷ []) (all_there hands)
+    ∙ ap (λ (xs : List (Option Hand)). xs ++ Some h ∷ []) (there_reversed hands)
+    ∙ sym (ap all_there (reverse-append (h ∷ []) hands) ∙ map-append (λ (x : Hand). Some x) (reverse hands) (h ∷ []))
+
+-- all workers were made, and the list was turned round
+pub slots_made : (m : Plan) (adjusts : List ℤ) (off : ℤ) (s0 s : Seats) (slots in_order : List (Option Hand)) → AreSlotsOnWay m adjusts off s0 s slots
+    → length slots ≡ length s0.seats.items → in_order ≡ reverse slots → AreInSlots m adjusts off s0 in_order
+slots_made m adjusts off s0 s slots in_order o all e =
+    let many : length slots ≡ length o.hands = ap length o.there ∙ length-map o.hands (λ (h : Hand). Some h) in
+    let left = o.way.count in
+    let none : length s.seats.items ≡ 0 = omega (arith, left, many, all) in
+    record {
+      hands = reverse o.hands;
+      there = e ∙ ap reverse o.there ∙ there_reversed o.hands;
+      of_seats = record {
+        count = length-reverse o.hands ∙ sym many ∙ all;
+        each = subst (λ (n : ℕ). EachFrom (IsOfSeats m adjusts off s0) n (reverse o.hands)) none o.way.each;
+      };
     }

@@ -4,16 +4,16 @@ use Rattle.std.proofs.Crossing.{crosses}
 use Rattle.atomic_table.proofs.shared.Seat.TheSendSync.{the_send as table_seat_send}
 use Rattle.atomic_table.proofs.shared.Shared.TheSendSync.{the_send as table_send, the_sync as table_sync}
 use Rattle.atomic_table.proofs.send_lease.SendLease.TheSendSync.{the_send as lease_send, the_sync as lease_sync}
-use Rattle.clk_num.specs.contracts.list.List as List
-use Rattle.clk_words.specs.contracts.seat.Seat as Seat
-use Rattle.clk_words.specs.contracts.words.Words as Words
-use Rattle.clk_latch.specs.contracts.seat.LatchSeat as LatchSeat
-use Rattle.clk_latch.specs.contracts.latch.Latch as Latch
-use Rattle.clk_ticket.specs.contracts.seat.TimeSeat as TimeSeat
-use Rattle.clk_trace.specs.contracts.event.Event as Event
-use Rattle.clk_worker.specs.contracts.own.Own as Own
-use Rattle.clk_worker.specs.contracts.shared.Shared as Shared
-use Rattle.clk_worker.specs.contracts.worker.Worker as Worker
+use Rattle.clk_num.specs.contracts.list.List
+use Rattle.clk_words.specs.contracts.seat.Seat
+use Rattle.clk_words.specs.contracts.words.Words
+use Rattle.clk_latch.specs.contracts.seat.LatchSeat
+use Rattle.clk_latch.specs.contracts.latch.Latch
+use Rattle.clk_ticket.specs.contracts.seat.TimeSeat
+use Rattle.clk_trace.specs.contracts.event.Event
+use Rattle.clk_worker.specs.contracts.own.Own
+use Rattle.clk_worker.specs.contracts.shared.Shared
+use Rattle.clk_worker.specs.contracts.worker.Worker
 use Rattle.clk_warp.proofs.Sent.{tickets_shared, machine_shared}
 
 seat_sent : IsSend Seat.the_row

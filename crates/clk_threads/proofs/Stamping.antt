@@ -23,7 +23,7 @@ use Rattle.clk_trace.specs.Checks.{one}
 use Rattle.clk_trace.specs.TicketOrder.{boot_blocks, up_blocks}
 use Rattle.clk_trace.specs.RightReadings.{IsRightStamp}
 use Rattle.clk_demote.specs.declared.events.StableStamp.{StableStamp}
-use Rattle.clk_threads.specs.Booting.{HasEpoch, MayStamp, HasStamped, gtod_offset_of, AreStamps, HasDrawnFirst}
+use Rattle.clk_threads.specs.Booting.{HasEpoch, MayStampAtBoot, HasStamped, gtod_offset_of, AreStamps, HasDrawnFirst}
 
 -- monotonic time does not fall
 pub gtod_rises : (m : Plan) (i k : ℕ) → i ≤ k → gtod_at m i ≤ℤ gtod_at m k
@@ -140,7 +140,7 @@ stamp_draws tickets bs n m before after epoch s few h t =
     (draws_one tickets bs n s.gtod_ticket before t.middle h (omega (arith, few)) t.first) (omega (arith, few)) t.second
 
 pub may_begin : (m : Plan) (tickets : Tickets) (time : Time) (epoch : Epoch) → HasEpoch tickets time → epoch ≡ owner_of (record_zero m) 0
-    → MayStamp m tickets time epoch
+    → MayStampAtBoot m tickets time epoch
 may_begin m tickets time epoch d e =
     let left = ap (λ (t : Time). t.left) d.is in
     record {

@@ -38,7 +38,7 @@ use Rattle.clk_watcher.specs.declared.parts.WatchParts.{WatchParts}
 use Rattle.clk_threads.specs.Booting.{gtod_offset_of, stable_offset_of, sched_offset_of, opening_of}
 use Rattle.clk_threads.specs.Preparing.{start_of, gave, gave_threads, watch_seat, IsWatchLatch, watch_time, empty_watch, IsPrepared}
 use Rattle.clk_threads.specs.Workers.{IsOfWatch, IsWatcherOf}
-use Rattle.clk_threads.specs.Ending.{shared_of, watch_seats_of, runs_stable}
+use Rattle.clk_threads.specs.Parts.{shared_of, watch_seats_of, runs_stable}
 use Rattle.clk_threads.specs.declared.prepared.Prepared.{Prepared}
 use Rattle.clk_threads.proofs.Beginning.{opens_near, fit, given_all}
 use Rattle.clk_threads.proofs.Bringing.{adjust_after, adjust_at}

@@ -1,5 +1,5 @@
 -- What the watchdog of a run leaves: all its checks, made from fresh seats, and what those seats have at the end.
-use Rattle.std.proofs.Common.{◌≡◌, ℕ, ◌+◌, ℤ, Bool, true, false, cond, List, [], ◌∷◌, ◌++◌, map, length, Option, Some, None, refl, sym, ap, ◌∙◌, subst}
+use Rattle.std.proofs.Common.{◌≡◌, ℕ, ◌+◌, ℤ, Bool, false, cond, List, [], ◌∷◌, ◌++◌, map, length, Option, Some, None, sym, ap, ◌∙◌, subst}
 use Rattle.std.specs.Prelude.{is_some}
 use Rattle.std.specs.List.{All}
 use Rattle.std.proofs.lemmas.List.{length-map}
@@ -19,18 +19,20 @@ use Rattle.clk_latch.specs.Epoch.{Place as LatchPlace}
 use Rattle.clk_demote.specs.declared.events.StableStamp.{StableStamp}
 use Rattle.clk_demote.specs.declared.events.Demotion.{Demotion}
 use Rattle.clk_demote.specs.Context.{Site, Known}
-use Rattle.clk_trace.specs.Checks.{Visit, Check}
+use Rattle.clk_watch.specs.Watching.{checks_asked}
+use Rattle.clk_trace.specs.Checks.{Visit, Check, listed}
 use Rattle.clk_worker.specs.declared.shared.Shared.{Shared}
 use Rattle.clk_watcher.specs.Checking.{StampsAt, DemotesAt, WatchesVisits, Watches, HasWatched}
 use Rattle.clk_watcher.specs.Making.{site_at, has}
 use Rattle.clk_watcher.specs.Making.{Hand as WatchHand, SeatsServe as WatchServe, IsGoing as IsWatchGoing, HasRun as HasRunWatch}
 use Rattle.clk_watcher.specs.declared.parts.WatchParts.{WatchParts}
-use Rattle.clk_threads.specs.Preparing.{start_of, watch_seat, IsWatchLatch, watch_time, adjusts_of, IsPrepared}
+use Rattle.clk_watcher.proofs.Ending.{has_watched}
+use Rattle.clk_threads.specs.Preparing.{start_of, IsWatchLatch, watch_time, adjusts_of, IsPrepared}
 use Rattle.clk_threads.specs.Finishing.{Watched, watch_site, IsGivenWatch}
-use Rattle.clk_threads.specs.Workers.{IsOfWatch, IsWatcherOf, HasWatchRun, WatcherRan}
-use Rattle.clk_threads.specs.Ending.{shared_of, watch_seats_of, runs_stable, part_list, parts_of}
+use Rattle.clk_threads.specs.Parts.{shared_of, runs_stable, WatchCame}
+use Rattle.clk_threads.specs.Ending.{part_list, parts_of}
 use Rattle.clk_threads.specs.declared.prepared.Prepared.{Prepared}
-use Rattle.clk_threads.proofs.WatchBeginning.{IsFreshWatch, fresh_watch, IsWatchSeat, watch_given, watch_going}
+use Rattle.clk_threads.proofs.WatchBeginning.{IsFreshWatch, fresh_watch, IsWatchSeat, watch_given}
 
 -- ---- what no check changes
 
@@ -94,12 +96,16 @@ some_is : (a b : WatchParts) → Some a ≡ Some b → a ≡ b
 some_is a b e = cc
 
 pub has_watch_left : (p : Prepared) (ip : IsPrepared p.machine p) (parts : WatchParts) (h w : WatchHand) → IsFreshWatch p ip.booted parts h
-    → HasWatchRun (shared_of p) h w → HasWatchLeft p ip.booted w
-has_watch_left p ip parts h w f run =
+    → IsWatchGoing (shared_of p) h w → w.next ≡ checks_asked p.machine.watchdog → HasWatchLeft p ip.booted w
+has_watch_left p ip parts h w f g whole =
     let s : Shared = shared_of p in
-    let first : IsWatchGoing s h h = watch_going p ip parts h f in
-    let g : IsWatchGoing s h w = run.went h first in
-    let r : HasRunWatch s h w = run.ran h first in
+    let r : HasRunWatch s h w = record {
+      began = g.began;
+      began_is = g.began_is;
+      ended = g.parts;
+      ended_is = g.parts_is;
+      watched = has_watched s g.began g.parts h.stable h.trace.watch.tsc_unstable w.stable w.next w.trace g.made whole;
+    } in
     let ended : g.parts ≡ r.ended = (let at = g.parts_is in some_is g.parts r.ended (sym at ∙ r.ended_is)) in
     let began : r.began ≡ parts = (let at = r.began_is in let is = ap (λ (x : WatchHand). x.parts) f.hand in some_is r.began parts (sym at ∙ is)) in
     let stable : h.stable ≡ runs_stable p = ap (λ (x : WatchHand). x.stable) f.hand in
@@ -201,19 +207,13 @@ abbrev pub WatchLeft : Prepared → Time → Option WatchHand → Type 0
 WatchLeft p booted None = is_some p.machine.watchdog ≡ false
 WatchLeft p booted (Some h) = HasWatchLeft p booted h
 
-pub watch_left : (p : Prepared) (ip : IsPrepared p.machine p) (before after : Option WatchHand)
-    → IsWatcherOf p.stamps.items p.sched_offset p.gtod_offset (runs_stable p) (watch_seats_of p) before
-    → WatcherRan (shared_of p) before after → WatchLeft p ip.booted after
-watch_left p ip None after w ran =
-    subst (WatchLeft p ip.booted) (sym ran) (sym (w.there ∙ ap is_some ip.opened.watch ∙ some_by (is_some p.machine.watchdog) (watch_seat p.machine p.opened.words)))
-  where
-    some_by : (b : Bool) (x : Held) → is_some (cond b (Some x) None) ≡ b
-    some_by true x = refl
-    some_by false x = refl
-watch_left p ip (Some h) after w ran =
-    let Of : WatchHand → Type 0 = IsOfWatch p.stamps.items p.sched_offset p.gtod_offset (runs_stable p) (watch_seats_of p) in
-    let is : Of h = All-head Of h [] w.each in
-    subst (WatchLeft p ip.booted) (sym ran.1) (has_watch_left p ip is.parts h ran.0 (fresh_watch p ip h is) ran.2)
+pub watch_left : (p : Prepared) (ip : IsPrepared p.machine p) (watcher : Option WatchHand) → is_some watcher ≡ is_some p.machine.watchdog
+    → All (WatchCame p) (listed watcher) → All (λ (h : WatchHand). h.next ≡ checks_asked p.machine.watchdog) (listed watcher) → WatchLeft p ip.booted watcher
+watch_left p ip None there came whole = sym there
+watch_left p ip (Some h) there came whole =
+    let Whole : WatchHand → Type 0 = λ x. x.next ≡ checks_asked p.machine.watchdog in
+    let c : WatchCame p h = All-head (WatchCame p) h [] came in
+    has_watch_left p ip c.given.parts c.first h (fresh_watch p ip c.first c.given) c.going (All-head Whole h [] whole)
 
 -- it is there where the machine has one
 pub left_there : (p : Prepared) (booted : Time) (watcher : Option WatchHand) → WatchLeft p booted watcher → is_some watcher ≡ is_some p.machine.watchdog

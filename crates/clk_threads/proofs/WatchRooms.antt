@@ -13,7 +13,7 @@ use Rattle.clk_ticket.specs.Time.{Time}
 use Rattle.clk_demote.specs.declared.events.Demotion.{Demotion}
 use Rattle.clk_demote.specs.Lifts.{lift_of, lifts_of}
 use Rattle.clk_trace.specs.Standing.{lifts_by}
-use Rattle.clk_trace.specs.WordHistory.{Placed, placed_lift, lift_steps, steps_on}
+use Rattle.clk_trace.specs.WordHistory.{Placed, placed_lift, lift_steps, placed_on}
 use Rattle.clk_trace.specs.declared.trace.WatchTrace.{WatchTrace}
 use Rattle.clk_watcher.specs.Checking.{KeepsLifts}
 use Rattle.clk_watcher.specs.Making.{has}
@@ -28,7 +28,7 @@ use Rattle.clk_threads.proofs.WatchLeaving.{WatchLeft}
 pub record FewLifts (n cap : ℕ) (watch : Option WatchTrace) : Type 0 where
   pub below : All (λ s. s.word < n) (lifts_by watch)
   pub once : IsDistinct nat_eq (map (λ s. s.word) (lifts_by watch))
-  pub few : (w : ℕ) → length (steps_on w (lift_steps watch)) ≤ cap
+  pub few : (w : ℕ) → length (placed_on w (lift_steps watch)) ≤ cap
 
 -- ---- one of each word
 
@@ -63,24 +63,24 @@ abbrev placed : ℕ → List Step → List Placed
 placed thread steps = map (placed_lift thread) steps
 
 on_next : (w thread by check : ℕ) (start : Start) (opening : ℤ) (n : ℕ)
-    → length (steps_on w (placed thread (lifts_of by start check opening (suc n))))
-    ≡ length (steps_on w (placed thread (lifts_of by start check opening n))) + length (steps_on w (placed thread (lift_of by start check opening n ∷ [])))
+    → length (placed_on w (placed thread (lifts_of by start check opening (suc n))))
+    ≡ length (placed_on w (placed thread (lifts_of by start check opening n))) + length (placed_on w (placed thread (lift_of by start check opening n ∷ [])))
 on_next w thread by check start opening n =
     let before : List Step = lifts_of by start check opening n in
     let one : List Step = lift_of by start check opening n ∷ [] in
-    ap (λ (ps : List Placed). length (steps_on w ps)) (map-append (placed_lift thread) before one)
+    ap (λ (ps : List Placed). length (placed_on w ps)) (map-append (placed_lift thread) before one)
     ∙ ap length (filter-append (λ (p : Placed). nat_eq p.step.word w) (placed thread before) (placed thread one))
-    ∙ length-append (steps_on w (placed thread before)) (steps_on w (placed thread one))
+    ∙ length-append (placed_on w (placed thread before)) (placed_on w (placed thread one))
 
 on_one : (w thread by check : ℕ) (start : Start) (opening : ℤ) (n : ℕ)
-    → length (steps_on w (placed thread (lift_of by start check opening n ∷ []))) ≡ cond (nat_eq n w) 1 0
+    → length (placed_on w (placed thread (lift_of by start check opening n ∷ []))) ≡ cond (nat_eq n w) 1 0
 on_one w thread by check start opening n = at (nat_eq n w)
   where
     at : (b : Bool) → length (cond b (placed_lift thread (lift_of by start check opening n) ∷ []) []) ≡ cond b 1 0
     at true = refl
     at false = refl
 
-on_none : (w thread by check : ℕ) (start : Start) (opening : ℤ) (n : ℕ) → n ≤ w → length (steps_on w (placed thread (lifts_of by start check opening n))) ≡ 0
+on_none : (w thread by check : ℕ) (start : Start) (opening : ℤ) (n : ℕ) → n ≤ w → length (placed_on w (placed thread (lifts_of by start check opening n))) ≡ 0
 on_none w thread by check start opening zero low = refl
 on_none w thread by check start opening (suc n) low =
     let other : nat_eq n w ≡ false = grind (arith, nat_tests) in
@@ -89,38 +89,38 @@ on_none w thread by check start opening (suc n) low =
     let next = on_next w thread by check start opening n in
     omega (arith, here, before, next)
 
-on_few : (w thread by check : ℕ) (start : Start) (opening : ℤ) (n : ℕ) → length (steps_on w (placed thread (lifts_of by start check opening n))) ≤ 1
+on_few : (w thread by check : ℕ) (start : Start) (opening : ℤ) (n : ℕ) → length (placed_on w (placed thread (lifts_of by start check opening n))) ≤ 1
 on_few w thread by check start opening zero = omega arith
 on_few w thread by check start opening (suc n) = at (nat_eq n w) refl (on_few w thread by check start opening n)
   where
-    one : length (steps_on w (placed thread (lift_of by start check opening n ∷ []))) ≡ cond (nat_eq n w) 1 0
+    one : length (placed_on w (placed thread (lift_of by start check opening n ∷ []))) ≡ cond (nat_eq n w) 1 0
     one = on_one w thread by check start opening n
 
-    next : length (steps_on w (placed thread (lifts_of by start check opening (suc n))))
-        ≡ length (steps_on w (placed thread (lifts_of by start check opening n))) + length (steps_on w (placed thread (lift_of by start check opening n ∷ [])))
+    next : length (placed_on w (placed thread (lifts_of by start check opening (suc n))))
+        ≡ length (placed_on w (placed thread (lifts_of by start check opening n))) + length (placed_on w (placed thread (lift_of by start check opening n ∷ [])))
     next = on_next w thread by check start opening n
 
     flag : Bool → ℕ
     flag b = cond b 1 0
 
-    at : (b : Bool) → nat_eq n w ≡ b → length (steps_on w (placed thread (lifts_of by start check opening n))) ≤ 1
-        → length (steps_on w (placed thread (lifts_of by start check opening (suc n)))) ≤ 1
+    at : (b : Bool) → nat_eq n w ≡ b → length (placed_on w (placed thread (lifts_of by start check opening n))) ≤ 1
+        → length (placed_on w (placed thread (lifts_of by start check opening (suc n)))) ≤ 1
     at true e before =
         let low : n ≤ w = grind (arith, nat_tests) in
         let none = on_none w thread by check start opening n low in
-        let here : length (steps_on w (placed thread (lift_of by start check opening n ∷ []))) ≡ 1 = one ∙ ap flag e in
+        let here : length (placed_on w (placed thread (lift_of by start check opening n ∷ []))) ≡ 1 = one ∙ ap flag e in
         omega (arith, none, next, here)
     at false e before =
-        let here : length (steps_on w (placed thread (lift_of by start check opening n ∷ []))) ≡ 0 = one ∙ ap flag e in
+        let here : length (placed_on w (placed thread (lift_of by start check opening n ∷ []))) ≡ 0 = one ∙ ap flag e in
         omega (arith, before, next, here)
 
 -- ---- those of the run's watchdog
 
 no_lifts : (n cap thread : ℕ) (steps : List Step) → steps ≡ []
-    → All (λ (s : Step). s.word < n) steps × IsDistinct nat_eq (map (λ (s : Step). s.word) steps) × ((w : ℕ) → length (steps_on w (placed thread steps)) ≤ cap)
+    → All (λ (s : Step). s.word < n) steps × IsDistinct nat_eq (map (λ (s : Step). s.word) steps) × ((w : ℕ) → length (placed_on w (placed thread steps)) ≤ cap)
 no_lifts n cap thread steps none =
     subst (λ (xs : List Step).
-    All (λ (s : Step). s.word < n) xs × IsDistinct nat_eq (map (λ (s : Step). s.word) xs) × ((w : ℕ) → length (steps_on w (placed thread xs)) ≤ cap)) (sym none)
+    All (λ (s : Step). s.word < n) xs × IsDistinct nat_eq (map (λ (s : Step). s.word) xs) × ((w : ℕ) → length (placed_on w (placed thread xs)) ≤ cap)) (sym none)
     (All-nil (λ (s : Step). s.word < n), IsDistinct-from_apart nat_eq [] (λ i j d lower low. absurd (omega (arith, low))), λ w. omega arith)
 
 pub left_few : (p : Prepared) (booted : Time) (watcher : Option WatchHand) → WatchLeft p booted watcher
@@ -147,7 +147,7 @@ left_few p booted (Some h) l = at h.trace.demotion l.watched.lifts
           below = subst (All (λ (s : Step). s.word < n)) (sym k) (lifts_below n by check start d.opening n (omega arith));
           once = subst (λ (xs : List Step). IsDistinct nat_eq (map (λ (s : Step). s.word) xs)) (sym k) (lifts_once by check start d.opening n);
           few = λ w.
-              subst (λ (xs : List Step). length (steps_on w (placed h.trace.thread xs)) ≤ lifts_room p.machine) (sym k)
+              subst (λ (xs : List Step). length (placed_on w (placed h.trace.thread xs)) ≤ lifts_room p.machine) (sym k)
               (let one = on_few w h.trace.thread by check start d.opening n in omega (arith, one, room));
         }
 

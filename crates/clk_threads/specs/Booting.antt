@@ -33,7 +33,7 @@ HasEpoch tickets time = Draws (fresh tickets.table most_tickets 0) 0 1 time
 -- ---- a stamp
 
 -- the boot may stamp: by record 0, on the owner's seat, with two tickets
-pub record MayStamp (m : Plan) (tickets : Tickets) (time : Time) (epoch : Epoch) : Type 0 where
+pub record MayStampAtBoot (m : Plan) (tickets : Tickets) (time : Time) (epoch : Epoch) : Type 0 where
   pub owner : epoch.owner ≡ true
   pub records : epoch.records ≡ record_zero m ∷ []
   pub table : time.table ≡ tickets.table

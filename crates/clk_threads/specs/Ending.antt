@@ -1,5 +1,6 @@
--- How a run is opened, and how it is closed: the seats of all workers are joined again, and the tables answer.
-use Rattle.std.specs.Prelude.{◌≡◌, ℕ, ◌+◌, ◌<◌, ◌≤◌, Bool, true, not, ◌&&◌, is_some, List, [], ◌∷◌, ◌++◌, length, map, flat_map, slice_index_or, Option, Some, None, option_map, if◌then◌else◌}
+-- How a run is opened, and how it is closed: the seats of all workers are joined again, and the tables answer. A
+-- runner's own: no public contract cites it.
+use Rattle.std.specs.Prelude.{◌≡◌, ℕ, ◌+◌, ◌<◌, ◌≤◌, true, List, [], ◌∷◌, ◌++◌, length, map, flat_map, slice_index_or, Option, Some, None, option_map, if◌then◌else◌}
 use Rattle.std.specs.List.{All, sum_by}
 use mathlib.Core.List.{IsPrefix}
 use Rattle.clk_base.specs.Blocks.{Covers}
@@ -29,13 +30,13 @@ use Rattle.clk_watcher.specs.Making.{Hand as WatchHand}
 use Rattle.clk_watcher.specs.declared.parts.WatchParts.{WatchParts}
 use Rattle.clk_threads.specs.Booting.{opening_of}
 use Rattle.clk_threads.specs.Finishing.{KnowsNoMore}
-use Rattle.clk_threads.specs.Workers.{AreOfSeats, IsWatcherOf}
+use Rattle.clk_threads.specs.Workers.{AreInSlots, IsWatcherOf}
+use Rattle.clk_threads.specs.Parts.{shared_of, seats_of, watch_seats_of, runs_stable}
 use Rattle.clk_threads.specs.declared.prepared.Prepared.{Prepared}
-use Rattle.clk_threads.specs.declared.run.Begun.{Begun}
 use Rattle.clk_threads.specs.declared.run.Finished.{Finished}
-use Rattle.clk_threads.specs.declared.run.RunParts.{RunParts}
-use Rattle.clk_threads.specs.declared.workers.Seats.{Seats}
-use Rattle.clk_threads.specs.declared.workers.WatchSeats.{WatchSeats}
+use Rattle.clk_threads.specs.declared.running.Begun.{Begun}
+use Rattle.clk_threads.specs.declared.running.Running.{Running}
+use Rattle.clk_threads.specs.declared.running.Sorted.{Sorted}
 
 -- the trace so far: what the boot and the bring-up left, and lists that are to be filled
 abbrev pub begun_by : Plan → Begun → Trace
@@ -56,8 +57,8 @@ begun_by m b = record {
   tickets = 0;
 }
 
-abbrev pub begun_trace : Prepared → Trace
-begun_trace p = begun_by p.machine (record {
+abbrev pub begun_of : Prepared → Begun
+begun_of p = record {
   epoch = p.epoch;
   stamps = p.stamps;
   boot_demotion = p.boot_demotion;
@@ -67,25 +68,28 @@ begun_trace p = begun_by p.machine (record {
   cpu_of = p.lists.cpu_of;
   threads = p.lists.threads;
   histories = p.lists.histories;
-})
+}
 
--- what the threads use together, and what each begins with
-abbrev pub shared_of : Prepared → Shared
-shared_of p = record { words = p.opened.words; epochs = p.latches.epochs; adjusts = p.lists.adjusts; tickets = p.tickets; machine = p.machine }
+abbrev pub begun_trace : Prepared → Trace
+begun_trace p = begun_by p.machine (begun_of p)
 
-abbrev pub seats_of : Prepared → Seats
-seats_of p = record { seats = p.opened.seats; latches = p.latches.seats; times = p.times; events = p.lists.events }
+-- what was prepared, by who begins with it
+abbrev pub sorted_of : Prepared → Sorted
+sorted_of p = record {
+  shared = shared_of p;
+  seats = seats_of p;
+  watch = watch_seats_of p;
+  begun = begun_of p;
+  first = p.opened.first;
+  time = p.time;
+  latches = p.lists.latches;
+  slots = p.lists.slots;
+  workers = p.lists.workers;
+}
 
-abbrev pub watch_seats_of : Prepared → WatchSeats
-watch_seats_of p = record { seat = p.opened.watch; latches = p.latches.watch; time = p.watch_time; trace = p.lists.watch }
-
--- whether the clock is stable as the scripts begin
-abbrev pub runs_stable : Prepared → Bool
-runs_stable p = p.machine.stable && not (is_some p.boot_demotion)
-
-pub record IsOpened (p : Prepared) (r : RunParts) : Type 0 where
+pub record IsOpened (p : Prepared) (r : Running) : Type 0 where
   pub shared : r.shared ≡ shared_of p
-  pub workers : AreOfSeats p.machine p.lists.adjusts.items p.sched_offset (seats_of p) r.workers.items
+  pub workers : AreInSlots p.machine p.lists.adjusts.items p.sched_offset (seats_of p) r.slots.items
   pub watcher : IsWatcherOf p.stamps.items p.sched_offset p.gtod_offset (runs_stable p) (watch_seats_of p) r.watcher
   pub first : r.first ≡ p.opened.first
   pub time : r.time ≡ p.time
@@ -93,6 +97,10 @@ pub record IsOpened (p : Prepared) (r : RunParts) : Type 0 where
   pub trace : r.trace ≡ begun_trace p
 
 -- ---- the seats of workers
+
+-- the workers that are there
+abbrev pub hands_in : List (Option Hand) → List Hand
+hands_in slots = flat_map listed slots
 
 abbrev pub own_list : Option Own → List Own
 own_list None = []
@@ -105,12 +113,16 @@ owns_of hands = flat_map (λ h. own_list h.own) hands
 abbrev pub MayJoin : Shared → Hand → Type 0
 MayJoin s h = (o : Own) → h.own ≡ Some o → (place_of o.seat ≡ s.words) × (o.time.table ≡ s.tickets.table)
 
-pub record MayGather (s : Shared) (hands : List Hand) (first : Held) (time : Time) (threads : Listed (Listed Event)) (latches : Listed LatchPlace) : Type 0 where
+-- all workers are there, and so are their seats
+abbrev pub MayJoinSlot : Shared → Option Hand → Type 0
+MayJoinSlot s slot = (h : Hand) × (slot ≡ Some h) × MayJoin s h
+
+pub record MayGather (s : Shared) (slots : List (Option Hand)) (first : Held) (time : Time) (threads : Listed (Listed Event)) (latches : Listed LatchPlace) : Type 0 where
   pub first_own : place_of first ≡ s.words
   pub time_own : time.table ≡ s.tickets.table
-  pub workers : All (MayJoin s) hands
-  pub room : length hands ≤ threads.room
-  pub latches_room : length hands ≤ latches.room
+  pub workers : All (MayJoinSlot s) slots
+  pub room : length slots ≤ threads.room
+  pub latches_room : length slots ≤ latches.room
 
 -- the views of these seats joined with the first one, one after another
 abbrev pub all_together : View → List View → View
@@ -218,29 +230,29 @@ abbrev pub whole_trace : Trace → Listed (Listed Event) → Option WatchTrace �
 whole_trace t threads watch tickets = record t { threads = threads; watch = watch; tickets = tickets }
 
 -- the workers were gathered, and then the watchdog
-pub record AreGathered (r : RunParts) (first : Held) (time : Time) (kept : Listed (Listed Event)) (seats : Listed LatchPlace) (owners : List LatchPlace)
+pub record AreGathered (r : Running) (first : Held) (time : Time) (kept : Listed (Listed Event)) (seats : Listed LatchPlace) (owners : List LatchPlace)
     (whole : Held) (drawn : Time) (watch : Option WatchTrace) : Type 0 where
-  pub threads : HasGathered r.shared r.workers.items r.first r.time r.trace.threads r.latches first time kept seats
+  pub threads : HasGathered r.shared (hands_in r.slots.items) r.first r.time r.trace.threads r.latches first time kept seats
   pub owners_left : AreOwnersLeft r.shared seats.items owners
   pub watchdog : HasGatheredWatch r.shared r.watcher owners first time whole drawn watch
 
 -- the seats are whole, and the histories may be filled
-pub record AreWhole (r : RunParts) (kept : Listed (Listed Event)) (whole : Held) (drawn : Time) (watch : Option WatchTrace) : Type 0 where
+pub record AreWhole (r : Running) (kept : Listed (Listed Event)) (whole : Held) (drawn : Time) (watch : Option WatchTrace) : Type 0 where
   pub all : HasAll whole.view
   pub share : share_of drawn ≡ r.shared.tickets.total
   pub fill : (tickets : ℕ) → MayFill (whole_trace r.trace kept watch tickets)
 
-pub record MayClose (r : RunParts) : Type 0 where
-  pub gather : MayGather r.shared r.workers.items r.first r.time r.trace.threads r.latches
+pub record MayClose (r : Running) : Type 0 where
+  pub gather : MayGather r.shared r.slots.items r.first r.time r.trace.threads r.latches
   pub latches : (first : Held) (time : Time) (kept : Listed (Listed Event)) (seats : Listed LatchPlace)
-      → HasGathered r.shared r.workers.items r.first r.time r.trace.threads r.latches first time kept seats → FitLatches r.shared seats.items
+      → HasGathered r.shared (hands_in r.slots.items) r.first r.time r.trace.threads r.latches first time kept seats → FitLatches r.shared seats.items
   pub watch : (first : Held) (time : Time) (kept : Listed (Listed Event)) (seats : Listed LatchPlace) (owners : List LatchPlace)
-      → HasGathered r.shared r.workers.items r.first r.time r.trace.threads r.latches first time kept seats → AreOwnersLeft r.shared seats.items owners
+      → HasGathered r.shared (hands_in r.slots.items) r.first r.time r.trace.threads r.latches first time kept seats → AreOwnersLeft r.shared seats.items owners
       → MayGatherWatch r.shared r.watcher owners first time
   pub whole : (first : Held) (time : Time) (kept : Listed (Listed Event)) (seats : Listed LatchPlace) (owners : List LatchPlace) (whole : Held) (drawn : Time) (watch : Option WatchTrace)
       → AreGathered r first time kept seats owners whole drawn watch → AreWhole r kept whole drawn watch
 
-pub record HasClosed (r : RunParts) (f : Finished) : Type 0 where
+pub record HasClosed (r : Running) (f : Finished) : Type 0 where
   pub first : Held
   pub time : Time
   pub kept : Listed (Listed Event)

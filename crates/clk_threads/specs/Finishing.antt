@@ -12,7 +12,7 @@ use Rattle.clk_words.specs.declared.opening.Mode.TheVariants.{Stable, PerCpu}
 use Rattle.clk_words.specs.declared.opening.Start.{Start}
 use Rattle.clk_words.specs.declared.step.Step.{Step}
 use Rattle.clk_words.specs.declared.view.View.{View}
-use Rattle.clk_words.specs.Calls.{IsComplete, all_steps}
+use Rattle.clk_words.specs.Calls.{IsComplete, own_steps}
 use Rattle.clk_words.specs.Fronts.{Begins}
 use Rattle.clk_words.specs.Histories.{opens_at, steps_on}
 use Rattle.clk_words.specs.Parts.{gtod_of, raw_of, part_of, PartBegins}
@@ -156,7 +156,7 @@ pub record IsRunOf (m : Plan) (t : Trace) (closed : List Step) : Type 0 where
   -- the end: the joined seat knows what each thread's and the watchdog's knew of stamps, of the offset and of the mode
   pub joined : View
   pub complete : IsComplete (start_of m t.boots.items t.boot_demotion) joined closed
-  pub steps : all_steps joined ≡ flat_map (λ r. r.ended.view.mine) rans ++ flat_map (λ w. w.ended.view.mine) (listed watched)
+  pub steps : own_steps joined ≡ flat_map (λ r. r.ended.view.mine) rans ++ flat_map (λ w. w.ended.view.mine) (listed watched)
   pub begins : All (λ r. Begins r.ended.view.seen closed) rans
   pub watch_begins : All (λ w. Begins w.ended.view.seen closed) (listed watched)
   pub known : All (λ r. KnowsNoMore r.ended.view joined) rans

@@ -24,7 +24,7 @@ use Rattle.clk_adjust.specs.declared.up.BroughtUp.{BroughtUp}
 use Rattle.clk_adjust.specs.BroughtUp.{IsBroughtUp}
 use Rattle.clk_trace.specs.declared.event.Event.{Event}
 use Rattle.clk_trace.specs.declared.trace.HistoryStep.{HistoryStep}
-use Rattle.clk_watch.specs.Watching.{checks_in, started}
+use Rattle.clk_watch.specs.Watching.{checks_asked, started}
 use Rattle.clk_demote.specs.declared.events.StableStamp.{StableStamp}
 use Rattle.clk_demote.specs.declared.events.Demotion.{Demotion}
 use Rattle.clk_trace.specs.Checks.{listed}
@@ -166,14 +166,14 @@ no_items n = record { items = []; room = n }
 abbrev pub empty_watch : Plan → Bool → WatchTrace
 empty_watch m lost = record {
   thread = length (threads_of m);
-  pauses = no_items (checks_in m.watchdog);
+  pauses = no_items (checks_asked m.watchdog);
   watch = started m lost;
-  last_record = no_items (checks_in m.watchdog);
-  stamps = no_items (checks_in m.watchdog);
+  last_record = no_items (checks_asked m.watchdog);
+  stamps = no_items (checks_asked m.watchdog);
   demotion = None;
   demoted_in = 0;
   lifts = no_items (cpu_count m);
-  currents = no_items (checks_in m.watchdog);
+  currents = no_items (checks_asked m.watchdog);
 }
 
 pub record AreLists (m : Plan) (up : BroughtUp) (l : Lists) : Type 0 where
@@ -183,6 +183,8 @@ pub record AreLists (m : Plan) (up : BroughtUp) (l : Lists) : Type 0 where
   pub histories : l.histories.items ≡ histories_below m (cpu_count m)
   pub adjusts : l.adjusts.items ≡ adjusts_of up.cpus.items
   pub latches : l.latches ≡ record { items = []; room = length (threads_of m) }
+  pub slots : l.slots.items ≡ []
+  pub slots_room : length (threads_of m) ≤ l.slots.room
   pub workers : l.workers.items ≡ []
   pub workers_room : length (threads_of m) ≤ l.workers.room
   pub watch : l.watch ≡ (if is_some m.watchdog then Some (empty_watch m up.failed) else None)

@@ -1,10 +1,11 @@
 -- The workers of a run and its watcher: how they are made of seats, and how they have run.
-use Rattle.std.specs.Prelude.{◌≡◌, ℕ, ◌<◌, ℤ, pos, List, [], ◌∷◌, ◌++◌, length, slice_index_or, Bool, is_some, Option, Some, None}
+use Rattle.std.specs.Prelude.{◌≡◌, ℕ, ◌<◌, ℤ, pos, List, [], ◌∷◌, ◌++◌, length, map, slice_index_or, Bool, is_some, Option, Some, None}
 use Rattle.std.specs.List.{All}
 use Rattle.clk_base.specs.Walk.{EachFrom}
 use Rattle.clk_num.specs.Listed.{Listed}
 use Rattle.clk_machine.specs.Plan.{Plan, thread_at}
 use Rattle.clk_demote.specs.declared.events.StableStamp.{StableStamp}
+use Rattle.clk_watch.specs.Watching.{checks_asked}
 use Rattle.clk_trace.specs.Checks.{listed}
 use Rattle.clk_trace.specs.Demoted.{boot_stamp}
 use Rattle.clk_trace.specs.declared.trace.WatchTrace.{WatchTrace}
@@ -13,7 +14,6 @@ use Rattle.clk_worker.specs.declared.shared.Shared.{Shared}
 use Rattle.clk_worker.specs.declared.own.Post.{Post}
 use Rattle.clk_worker.specs.declared.own.Own.{Own}
 use Rattle.clk_worker.specs.Making.{Hand, script_of, WentOn}
-use Rattle.clk_watcher.specs.Making.{RanAll}
 use Rattle.clk_watcher.specs.Making.{Hand as WatchHand, Begins as WatchBegins, WentOn as WatchWentOn}
 use Rattle.clk_watcher.specs.declared.parts.WatchParts.{WatchParts}
 use Rattle.clk_threads.specs.declared.workers.Seats.{Seats}
@@ -64,6 +64,19 @@ pub record AreOfSeats (m : Plan) (adjusts : List ℤ) (sched_offset : ℤ) (s : 
   pub count : length hands ≡ length s.seats.items
   pub each : EachFrom (IsOfSeats m adjusts sched_offset s) 0 hands
 
+-- these are all there, each in its slot; and none of so many is
+abbrev pub all_there : List Hand → List (Option Hand)
+all_there hands = map (λ h. Some h) hands
+
+abbrev pub all_taken : List Hand → List (Option Hand)
+all_taken hands = map (λ _. None) hands
+
+-- the workers of all threads in their slots
+pub record AreInSlots (m : Plan) (adjusts : List ℤ) (sched_offset : ℤ) (s : Seats) (slots : List (Option Hand)) : Type 0 where
+  pub hands : List Hand
+  pub there : slots ≡ all_there hands
+  pub of_seats : AreOfSeats m adjusts sched_offset s hands
+
 -- ---- the watcher
 
 -- there is all of it or nothing
@@ -90,7 +103,7 @@ pub record IsWatcherOf (stamps : List StableStamp) (sched_offset gtod_offset : �
   pub there : is_some watcher ≡ is_some w.seat
   pub each : All (IsOfWatch stamps sched_offset gtod_offset stable w) (listed watcher)
 
--- ---- the run
+-- ---- the run on threads: a runner's own
 
 -- the worker made all words that were left
 pub record HasRun (s : Shared) (v w : Hand) : Type 0 where
@@ -104,7 +117,7 @@ pub record HaveRun (s : Shared) (before after : List Hand) : Type 0 where
 -- the watcher made all checks that were left
 pub record HasWatchRun (s : Shared) (v w : WatchHand) : Type 0 where
   pub went : WatchWentOn s v w
-  pub ran : RanAll s v w
+  pub next : w.next ≡ checks_asked s.machine.watchdog
 
 -- so did the one that there is
 abbrev pub WatcherRan : Shared → Option WatchHand → Option WatchHand → Type 0

@@ -4,7 +4,7 @@ ghost use Rattle.clk_machine.specs.Limits.{most_tickets, IsWithinLimits};
 ghost use Rattle.clk_machine.specs.Records.{record_zero};
 ghost use Rattle.clk_ticket.specs.Time.{fresh};
 ghost use Rattle.clk_latch.specs.Epoch.{owner_of};
-ghost use Rattle.clk_threads.specs.Booting.{HasEpoch, MayStamp, HasStamped, HasStarted, IsBooted};
+ghost use Rattle.clk_threads.specs.Booting.{HasEpoch, MayStampAtBoot, HasStamped, HasStarted, IsBooted};
 
 use clk_demote::StableStamp;
 use clk_latch::{Epochs, Latch, LatchSeat};
@@ -141,7 +141,7 @@ pub(crate) fn stamp(
 ) -> StableStamp
     requires limits { IsWithinLimits machine.now }
     requires own { seat.old.latch ≡ latch.now }
-    requires may { MayStamp machine.now tickets.now time.old seat.old.epoch }
+    requires may { MayStampAtBoot machine.now tickets.now time.old seat.old.epoch }
     ensures own { seat.new.latch ≡ latch.now }
     ensures stamped { HasStamped machine.now time.old time.new seat.new.epoch result }
 {

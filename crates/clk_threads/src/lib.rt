@@ -15,16 +15,23 @@
 //! drawn and what the words' history is. It promises that the trace is lawful for the machine, and that it shows the
 //! history of the clock words; it promises no order in which the threads get on. What a reader found of its CPU's
 //! stamps and records is among what the CPU's own thread made: the joins tell that.
+//!
+//! It is made of [`open_run`], [`RunParts`] and [`close_run`], by which a caller can take a run apart: take the worker
+//! of any thread, and the watcher, make their words and checks in any order and from as many threads as it likes, give
+//! them back, and close the run with the same promise.
 #![tactic(auto)]
 
 mod booted;
 mod demoted;
+mod ended;
 mod joins;
 mod latches;
 mod lists;
 mod opened;
+mod parts;
 mod prepared;
 mod run;
+mod running;
 mod times;
 mod watchdog;
 mod workers;
@@ -33,5 +40,6 @@ pub use booted::{Booted, boot};
 pub use latches::Latches;
 pub use lists::Lists;
 pub use opened::Opened;
+pub use parts::{RunParts, close_run, open_run};
 pub use prepared::{Prepared, prepare};
 pub use run::{Finished, run_cpus};

@@ -31,7 +31,9 @@ pub struct Lists {
     pub adjusts: List<i64>,
     /// Empty, with room for the latch seat of each thread.
     pub latches: List<LatchSeat>,
-    /// Empty, with room for a worker of each thread.
+    /// Empty, with room for a slot for the worker of each thread.
+    pub slots: List<Option<Worker>>,
+    /// Empty, with room for a worker of each thread: those that run side by side.
     pub workers: List<Worker>,
     /// What the watchdog fills, if there is one: lists with room for all its checks.
     pub watch: Option<WatchTrace>,
@@ -61,6 +63,7 @@ pub(crate) fn make_lists(
         histories,
         adjusts,
         latches: List::with_room(alloc, threads)?,
+        slots: List::with_room(alloc, threads)?,
         workers: List::with_room(alloc, threads)?,
         watch: list_watch(alloc, machine, up.failed)?,
     })
@@ -141,14 +144,14 @@ fn fill_histories(
     ensures { IfOk result (λ _. histories.new.items ≡ histories_below machine.now (cpu_count machine.now)) }
 {
     for word in 0..machine.cpus() {
-        let steps = steps_on(machine, word);
+        let steps = most_steps_on(machine, word);
         histories.push(List::with_room(alloc, steps)?);
     }
     Ok(())
 }
 
 /// The most steps that all threads make on a clock word, and a lift by the watchdog, if there is one.
-fn steps_on(machine: &Machine, word: u32) -> usize
+fn most_steps_on(machine: &Machine, word: u32) -> usize
     ensures { result ≡ steps_room machine.now word }
 {
     let mut steps = usize::from(has_watchdog(machine));

@@ -3,7 +3,7 @@ ghost use Rattle.std.specs.Prelude.{◌≡◌, pos, is_some, if◌then◌else◌
 ghost use Rattle.clk_machine.specs.Plan.{count_of, cpu_count};
 ghost use Rattle.clk_machine.specs.Limits.{IsWithinLimits};
 ghost use Rattle.clk_machine.specs.Tickets.{watch_tickets};
-ghost use Rattle.clk_watch.specs.Watching.{checks_in};
+ghost use Rattle.clk_watch.specs.Watching.{checks_asked};
 
 use clk_machine::Machine;
 
@@ -28,7 +28,7 @@ pub(crate) fn watched_cpus(machine: &Machine) -> u32
 /// How many checks the watchdog makes, at most 4,096; none where there is none.
 pub(crate) fn checks(machine: &Machine) -> usize
     requires limits { IsWithinLimits machine.now }
-    ensures { result ≡ checks_in machine.now.watchdog }
+    ensures { result ≡ checks_asked machine.now.watchdog }
 {
     match machine.watchdog() {
         Some(watch) => count(&watch.checks) as usize,

@@ -5,7 +5,7 @@ ghost use Rattle.clk_machine.specs.Limits.{IsWithinLimits};
 ghost use Rattle.clk_worker.specs.Making.{BelongsTo};
 ghost use Rattle.clk_trace.specs.Checks.{listed};
 ghost use Rattle.clk_watcher.specs.Making.{BelongsTo as WatchBelongsTo};
-ghost use Rattle.clk_threads.specs.Workers.{HaveSeats, IsOfLast, AreOfSeats, HaveWatchSeats, IsWatcherOf, HasRun, HaveRun, HasWatchRun, WatcherRan};
+ghost use Rattle.clk_threads.specs.Workers.{HaveSeats, IsOfLast, AreInSlots, HaveWatchSeats, IsWatcherOf, HasRun, HaveRun, HasWatchRun, WatcherRan};
 
 use clk_demote::StableStamp;
 use clk_latch::LatchSeat;
@@ -54,26 +54,27 @@ impl Seats {
     }
 }
 
-/// A worker of each thread, in order. The seats are taken from the last one on, and so the list is turned round.
+/// A worker of each thread in its slot, in order. The seats are taken from the last one on, and so the list is turned
+/// round.
 pub(crate) fn make_workers(
     machine: &Machine,
     adjusts: &List<i64>,
     mut seats: Seats,
     sched_offset: i64,
-    mut workers: List<Worker>,
-) -> List<Worker>
+    mut slots: List<Option<Worker>>,
+) -> List<Option<Worker>>
     requires limits { IsWithinLimits machine.now }
     requires adjusts { length adjusts.now.items ≡ cpu_count machine.now }
     requires count { length seats.seats.items ≡ length (threads_of machine.now) }
     requires seats { HaveSeats (length seats.seats.items) seats }
-    requires empty { workers.items ≡ [] }
-    requires room { length (threads_of machine.now) ≤ workers.room }
-    ensures { AreOfSeats machine.now adjusts.now.items sched_offset seats result.items }
+    requires empty { slots.items ≡ [] }
+    requires room { length (threads_of machine.now) ≤ slots.room }
+    ensures { AreInSlots machine.now adjusts.now.items sched_offset seats result.items }
 {
     for _ in 0..machine.threads() {
-        workers.push(seats.pop(machine, adjusts, sched_offset));
+        slots.push(Some(seats.pop(machine, adjusts, sched_offset)));
     }
-    let mut in_order = workers.into_vec();
+    let mut in_order = slots.into_vec();
     in_order.reverse();
     List::from_vec(in_order)
 }

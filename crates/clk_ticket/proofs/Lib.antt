@@ -1,4 +1,4 @@
 pub mod Totals
 pub mod Blocks
-pub mod Keeping
+pub mod TicketSteps
 pub mod Once

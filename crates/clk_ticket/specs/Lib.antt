@@ -1,5 +1,5 @@
 pub mod Sizes
 pub mod Time
-pub mod Kept
-pub mod Seated
+pub mod TicketRule
+pub mod TimeSeats
 pub mod Laws

@@ -15,7 +15,7 @@ pub struct Knows {
 pub struct Budgets;
 
 impl TableRule<(), Knows, u64> for Budgets {
-    ghost use Rattle.clk_ticket.specs.Kept.{Kept, knows_budget};
+    ghost use Rattle.clk_ticket.specs.TicketRule.{Kept, knows_budget};
 
     ghost holds = { Kept };
 
@@ -26,7 +26,7 @@ impl TableRule<(), Knows, u64> for Budgets {
 pub(crate) struct Draw;
 
 impl Play<(), Knows> for Draw {
-    ghost use Rattle.clk_ticket.specs.Kept.{Drew};
+    ghost use Rattle.clk_ticket.specs.TicketRule.{Drew};
 
     ghost then = { Drew };
 }
@@ -35,7 +35,7 @@ impl Play<(), Knows> for Draw {
 pub(crate) struct Look;
 
 impl Play<(), Knows> for Look {
-    ghost use Rattle.clk_ticket.specs.Kept.{Looked};
+    ghost use Rattle.clk_ticket.specs.TicketRule.{Looked};
 
     ghost then = { Looked };
 }
@@ -56,7 +56,7 @@ pub(crate) struct Cut<P> {
 }
 
 impl<P: Part> Split<Knows> for Cut<P> {
-    ghost use Rattle.clk_ticket.specs.Kept.{knows_less, knows_budget};
+    ghost use Rattle.clk_ticket.specs.TicketRule.{knows_less, knows_budget};
 
     ghost left = { knows_less P.part };
 
@@ -66,7 +66,7 @@ impl<P: Part> Split<Knows> for Cut<P> {
 pub(crate) struct Both;
 
 impl Join<Knows> for Both {
-    ghost use Rattle.clk_ticket.specs.Kept.{knows_both, knows_budget};
+    ghost use Rattle.clk_ticket.specs.TicketRule.{knows_both, knows_budget};
 
     ghost both = { knows_both };
 

@@ -23,7 +23,7 @@ impl Model for TimeSeat {
 
     ghost coded = { time_code };
 
-    ghost use Rattle.clk_ticket.specs.Seated.{time_of, IsSeated};
+    ghost use Rattle.clk_ticket.specs.TimeSeats.{time_of, IsSeated};
 
     ghost view = { λ t. time_of t.seat };
 

@@ -17,26 +17,26 @@ abbrev pub is_plain : List ℕ → Bool
 is_plain word = (nat_le 49 (slice_index word 0) && nat_le (slice_index word 0) 57) || ((slice_index word 0 == 48) && (length word == 1))
 
 -- `rate` of a frequency in Hz, which is not 0, and of 1 to 64 bits
-abbrev pub rate_of : Option ℕ → Option ℕ → Option Command
-rate_of (Some hz) (Some bits) = if nat_le 1 hz && nat_le 1 bits && nat_le bits 64 then Some (Rate hz bits) else None
-rate_of _ _ = None
+abbrev pub rate_from : Option ℕ → Option ℕ → Option Command
+rate_from (Some hz) (Some bits) = if nat_le 1 hz && nat_le 1 bits && nat_le bits 64 then Some (Rate hz bits) else None
+rate_from _ _ = None
 
 -- `make` of a number below 65,536
-abbrev pub make_of : Option ℕ → Option Command
-make_of (Some n) = if nat_lt n 65536 then Some (Make n) else None
-make_of None = None
+abbrev pub make_from : Option ℕ → Option Command
+make_from (Some n) = if nat_lt n 65536 then Some (Make n) else None
+make_from None = None
 
 -- its numbers are in their ranges
-abbrev pub IsInRange : Command → Type 0
-IsInRange Run = Unit {0}
-IsInRange (Rate hz bits) = (1 ≤ hz) × (1 ≤ bits) × (bits ≤ 64)
-IsInRange (Make n) = n < 65536
+abbrev pub IsCommandInRange : Command → Type 0
+IsCommandInRange Run = Unit {0}
+IsCommandInRange (Rate hz bits) = (1 ≤ hz) × (1 ≤ bits) × (bits ≤ 64)
+IsCommandInRange (Make n) = n < 65536
 
 -- the command, or none where the words are none of the forms
 abbrev pub command_of : List (List ℕ) → Option Command
 command_of (word ∷ []) = if bytes_eq word (codes "run") then Some Run else None
-command_of (word ∷ number ∷ []) = if bytes_eq word (codes "make") then make_of (number_of number) else None
-command_of (word ∷ hz ∷ bits ∷ []) = if bytes_eq word (codes "rate") then rate_of (number_of hz) (number_of bits) else None
+command_of (word ∷ number ∷ []) = if bytes_eq word (codes "make") then make_from (number_of number) else None
+command_of (word ∷ hz ∷ bits ∷ []) = if bytes_eq word (codes "rate") then rate_from (number_of hz) (number_of bits) else None
 command_of _ = None
 
 -- what the words of a command line ask for

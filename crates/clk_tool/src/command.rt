@@ -1,6 +1,6 @@
 //! What the words of a command line ask for.
 ghost use Rattle.std.specs.Prelude.{◌≡◌, IfSome};
-ghost use Rattle.clk_tool.specs.Commands.{command_asked, IsInRange, rate_of, make_of, number_of, is_plain};
+ghost use Rattle.clk_tool.specs.Commands.{command_asked, IsCommandInRange, rate_from, make_from, number_of, is_plain};
 
 /// What the words of a command line ask for.
 #[derive(Clone, Copy, PartialEq, Eq, Debug)]
@@ -16,20 +16,20 @@ pub enum Command {
 /// The command of the words, the program's name left out. It is `None` where they are none of the forms.
 pub(crate) fn command_in(words: &[String]) -> Option<Command>
     ensures command { result ≡ command_asked words.now }
-    ensures range { IfSome result IsInRange }
+    ensures range { IfSome result IsCommandInRange }
 {
     match words {
         [word] if word.as_str() == "run" => Some(Command::Run),
-        [word, n] if word.as_str() == "make" => make_of(n.as_str()),
-        [word, hz, bits] if word.as_str() == "rate" => rate_of(hz.as_str(), bits.as_str()),
+        [word, n] if word.as_str() == "make" => make_from(n.as_str()),
+        [word, hz, bits] if word.as_str() == "rate" => rate_from(hz.as_str(), bits.as_str()),
         _ => None,
     }
 }
 
 /// The command `rate` of these two words.
-fn rate_of(hz: &str, bits: &str) -> Option<Command>
-    ensures command { result ≡ rate_of (number_of hz.now) (number_of bits.now) }
-    ensures range { IfSome result IsInRange }
+fn rate_from(hz: &str, bits: &str) -> Option<Command>
+    ensures command { result ≡ rate_from (number_of hz.now) (number_of bits.now) }
+    ensures range { IfSome result IsCommandInRange }
 {
     let hz = number_of(hz)?;
     let bits = number_of(bits)?;
@@ -41,9 +41,9 @@ fn rate_of(hz: &str, bits: &str) -> Option<Command>
 }
 
 /// The command `make` of this word.
-fn make_of(n: &str) -> Option<Command>
-    ensures command { result ≡ make_of (number_of n.now) }
-    ensures range { IfSome result IsInRange }
+fn make_from(n: &str) -> Option<Command>
+    ensures command { result ≡ make_from (number_of n.now) }
+    ensures range { IfSome result IsCommandInRange }
 {
     let n = number_of(n)?;
     if n < 65_536 {

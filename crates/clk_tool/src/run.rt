@@ -50,6 +50,42 @@ pub fn read_run<S: Source>(alloc: Global, source: &mut S) -> Result<Booted, Stat
     }
 }
 
+/// Runs a machine that [`read_run`] booted and whose CPUs were brought up with the tickets of its seat, each script on
+/// a thread of its own, and writes its trace: the text of a lawful trace of the machine. The answer is `Done`,
+/// `WriteFault` or `Memory`. Each script word and each check of the watchdog passes the gate first. It waits on
+/// nothing, and returns.
+pub fn write_run<R: Threads + Sync, K: Sink, G: Gate + Sync>(
+    rt: &R,
+    alloc: Global,
+    booted: Booted,
+    up: BroughtUp,
+    sink: &mut K,
+    gate: &G,
+) -> Status
+    requires booted { IsBootedFor booted.machine up booted }
+    requires up { IsBroughtUp booted.machine None up }
+    ensures done { result ≡ Status.Done →
+        Traced booted.machine (Grew (K.written sink.old) (K.written sink.new)) }
+    ensures write_fault { result ≡ Status.WriteFault → Rose (K.faults sink.old) (K.faults sink.new) }
+    ensures cut { result ≡ Status.WriteFault →
+        Traced booted.machine (GrewByPrefix (K.written sink.old) (K.written sink.new)) }
+    ensures silent { result ≡ Status.Memory → sink.new ≡ sink.old }
+    ensures answers { IsOfRun result }
+    ensures later { K.faults sink.old ≤ K.faults sink.new }
+
+    // Where the sink did not fail, only want of memory is left.
+    ensures complete { ¬ Rose (K.faults sink.old) (K.faults sink.new) →
+        (result ≡ Status.Done) ⊎ (result ≡ Status.Memory) }
+{
+    match run_machine(rt, alloc, booted, up, gate) {
+        Ok(finished) => match write_trace(sink, &finished.trace) {
+            Ok(()) => Status::Done,
+            Err(WriteFault) => Status::WriteFault,
+        },
+        Err(_) => Status::Memory,
+    }
+}
+
 /// The machine that a source describes. The error is the answer of the program.
 fn machine_of<S: Source>(alloc: Global, source: &mut S) -> Result<Machine, Status>
     ensures ok { IfOk result (CameMachine LIMIT (S.rest source.old) (S.rest source.new)) }
@@ -84,42 +120,6 @@ fn status_of(error: FileError) -> Status
         FileError::Cpu(place) => Status::Refused(Refusal::Cpu(place)),
         FileError::Tickets { needed } => Status::Refused(Refusal::Tickets { needed }),
         FileError::Memory(_) => Status::Memory,
-    }
-}
-
-/// Runs a machine that [`read_run`] booted and whose CPUs were brought up with the tickets of its seat, each script on
-/// a thread of its own, and writes its trace: the text of a lawful trace of the machine. The answer is `Done`,
-/// `WriteFault` or `Memory`. Each script word and each check of the watchdog passes the gate first. It waits on
-/// nothing, and returns.
-pub fn write_run<R: Threads + Sync, K: Sink, G: Gate + Sync>(
-    rt: &R,
-    alloc: Global,
-    booted: Booted,
-    up: BroughtUp,
-    sink: &mut K,
-    gate: &G,
-) -> Status
-    requires booted { IsBootedFor booted.machine up booted }
-    requires up { IsBroughtUp booted.machine None up }
-    ensures done { result ≡ Status.Done →
-        Traced booted.machine (Grew (K.written sink.old) (K.written sink.new)) }
-    ensures write_fault { result ≡ Status.WriteFault → Rose (K.faults sink.old) (K.faults sink.new) }
-    ensures cut { result ≡ Status.WriteFault →
-        Traced booted.machine (GrewByPrefix (K.written sink.old) (K.written sink.new)) }
-    ensures silent { result ≡ Status.Memory → sink.new ≡ sink.old }
-    ensures answers { IsOfRun result }
-    ensures later { K.faults sink.old ≤ K.faults sink.new }
-
-    // Where the sink did not fail, only want of memory is left.
-    ensures complete { ¬ Rose (K.faults sink.old) (K.faults sink.new) →
-        (result ≡ Status.Done) ⊎ (result ≡ Status.Memory) }
-{
-    match run_machine(rt, alloc, booted, up, gate) {
-        Ok(finished) => match write_trace(sink, &finished.trace) {
-            Ok(()) => Status::Done,
-            Err(WriteFault) => Status::WriteFault,
-        },
-        Err(_) => Status::Memory,
     }
 }
 

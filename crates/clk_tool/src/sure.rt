@@ -17,26 +17,6 @@ pub struct SureSource {
     given: usize,
 }
 
-impl Model for SureSource {
-    ghost use Rattle.std.specs.Prelude.{ℕ, List, length, drop, ◌≤◌};
-
-    ghost Value = { List ℕ };
-
-    ghost view = { λ s. drop s.given s.bytes.items };
-
-    ghost invariant = { λ s. s.given ≤ length s.bytes.items };
-}
-
-// Copies the first bytes of `from` to the front of `to`, as many as both have and at most `most`.
-fn copy_front(from: &[u8], to: &mut [u8], most: usize) -> usize
-    ensures count { result ≡ min most (min (length from.now) (length to.old)) }
-    ensures copied { to.new ≡ take result from.now ++ drop result to.old }
-{
-    let n = most.min(from.len().min(to.len()));
-    to[..n].copy_from_slice(&from[..n]);
-    n
-}
-
 impl SureSource {
     /// A source of these bytes.
     pub fn new(bytes: List<u8>) -> SureSource
@@ -140,4 +120,24 @@ impl Sink for SureSink {
         }
         Ok(piece.len())
     }
+}
+
+impl Model for SureSource {
+    ghost use Rattle.std.specs.Prelude.{ℕ, List, length, drop, ◌≤◌};
+
+    ghost Value = { List ℕ };
+
+    ghost view = { λ s. drop s.given s.bytes.items };
+
+    ghost invariant = { λ s. s.given ≤ length s.bytes.items };
+}
+
+// Copies the first bytes of `from` to the front of `to`, as many as both have and at most `most`.
+fn copy_front(from: &[u8], to: &mut [u8], most: usize) -> usize
+    ensures count { result ≡ min most (min (length from.now) (length to.old)) }
+    ensures copied { to.new ≡ take result from.now ++ drop result to.old }
+{
+    let n = most.min(from.len().min(to.len()));
+    to[..n].copy_from_slice(&from[..n]);
+    n
 }

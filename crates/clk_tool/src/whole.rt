@@ -9,6 +9,27 @@ use std::alloc::Global;
 /// The most bytes that a source may hold to be read whole.
 pub const LIMIT: usize = 1_048_576;
 
+/// Reads a source to its end. It is refused where the source fails, where more than `LIMIT` bytes come, and where
+/// memory runs out. A read is not tried again, and no more than one byte past the limit is taken.
+pub fn read_whole<S: Source>(alloc: Global, source: &mut S) -> Result<Vec<u8>, ReadRefusal>
+    ensures ok { IfOk result (λ bytes. Came LIMIT (S.rest source.old) (S.rest source.new) bytes.items) }
+    ensures fault { result ≡ Err ReadRefusal.Fault → Rose (S.faults source.old) (S.faults source.new) }
+    ensures long { result ≡ Err ReadRefusal.TooLong → CameMore LIMIT (S.rest source.old) (S.rest source.new) }
+    ensures taken { CameAtMost (LIMIT + 1) (S.rest source.old) (S.rest source.new) }
+    ensures later { S.faults source.old ≤ S.faults source.new }
+{
+    let mut bytes = Vec::new(alloc);
+    let mut buf = [0; 4096];
+    while bytes.len() <= LIMIT {
+        // No more than one byte past the limit is taken.
+        let room = buf.len().min(LIMIT + 1 - bytes.len());
+        if read_more(source, &mut buf, room, &mut bytes)? == 0 {
+            return Ok(bytes);
+        }
+    }
+    Err(ReadRefusal::TooLong)
+}
+
 /// Why a source was not read whole.
 #[derive(Clone, Copy, Debug, PartialEq, Eq)]
 pub enum ReadRefusal {
@@ -45,25 +66,4 @@ fn read_more<S: Source>(
         Ok(()) => Ok(n),
         Err(_) => Err(ReadRefusal::Memory),
     }
-}
-
-/// Reads a source to its end. It is refused where the source fails, where more than `LIMIT` bytes come, and where
-/// memory runs out. A read is not tried again, and no more than one byte past the limit is taken.
-pub fn read_whole<S: Source>(alloc: Global, source: &mut S) -> Result<Vec<u8>, ReadRefusal>
-    ensures ok { IfOk result (λ bytes. Came LIMIT (S.rest source.old) (S.rest source.new) bytes.items) }
-    ensures fault { result ≡ Err ReadRefusal.Fault → Rose (S.faults source.old) (S.faults source.new) }
-    ensures long { result ≡ Err ReadRefusal.TooLong → CameMore LIMIT (S.rest source.old) (S.rest source.new) }
-    ensures taken { CameAtMost (LIMIT + 1) (S.rest source.old) (S.rest source.new) }
-    ensures later { S.faults source.old ≤ S.faults source.new }
-{
-    let mut bytes = Vec::new(alloc);
-    let mut buf = [0; 4096];
-    while bytes.len() <= LIMIT {
-        // No more than one byte past the limit is taken.
-        let room = buf.len().min(LIMIT + 1 - bytes.len());
-        if read_more(source, &mut buf, room, &mut bytes)? == 0 {
-            return Ok(bytes);
-        }
-    }
-    Err(ReadRefusal::TooLong)
 }

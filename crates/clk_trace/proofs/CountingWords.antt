@@ -11,7 +11,7 @@ use Rattle.clk_machine.specs.Plan.{count_of}
 use Rattle.clk_machine.specs.Tickets.{tickets_of}
 use Rattle.clk_trace.specs.Counting.{steps_of_word}
 use Rattle.clk_trace.specs.Modes.{Modes, IsOfMode, turned_after}
-use Rattle.clk_trace.specs.ScriptEvents.{IsReading, IsRemoteReading, IsTick, IsUpdate, IsPause, Calls, events_at, AreEventsOf}
+use Rattle.clk_trace.specs.ScriptEvents.{IsOwnReading, IsRemoteReading, IsTick, IsUpdate, IsPause, Calls, events_at, AreEventsOf}
 use Rattle.clk_trace.specs.TicketOrder.{blocks_of_kind, blocks_of}
 use Rattle.clk_trace.specs.WordHistory.{steps_of_kind, steps_from}
 use Rattle.clk_trace.specs.declared.event.Event.{Event}
@@ -87,7 +87,7 @@ record Counts (tickets steps : ℕ) (ks : List EventKind) : Type 0 where
   tickets_are : tickets_in ks ≡ tickets
   steps_are : steps_in ks ≡ steps
 
-reading_counts : (ks : List EventKind) → ArePerCpu ks → IsReading ks → Counts 1 1 ks
+reading_counts : (ks : List EventKind) → ArePerCpu ks → IsOwnReading ks → Counts 1 1 ks
 reading_counts [] p h = absurd h
 reading_counts (Stable raw value ∷ ks) p h = absurd p.0
 reading_counts (Local raw tick_raw tick_gtod offset old new ∷ []) p h = record { tickets_are = refl; steps_are = refl }
@@ -162,7 +162,7 @@ word_counts : (cpu : ℕ) (u : Word) (ks : List EventKind) → ArePerCpu ks → 
 word_counts cpu word.Local ks p h = reading_counts ks p h
 word_counts cpu (word.Remote d) ks p h = at (nat_eq (count_of d) cpu) h
   where
-    at : (b : Bool) → MatchBool b (IsReading ks) (IsRemoteReading (count_of d) ks) → Counts 1 (cond b 1 2) ks
+    at : (b : Bool) → MatchBool b (IsOwnReading ks) (IsRemoteReading (count_of d) ks) → Counts 1 (cond b 1 2) ks
     at true r = reading_counts ks p r
     at false r = remote_counts (count_of d) ks p r
 word_counts cpu word.Tick ks p h = tick_counts ks p h

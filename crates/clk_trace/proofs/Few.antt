@@ -7,7 +7,7 @@ use Rattle.std.proofs.lemmas.List.Filters.{length-filter_both}
 use Rattle.clk_num.specs.Listed.{Listed}
 use Rattle.clk_trace.specs.Filling.{lines_on}
 use Rattle.clk_trace.specs.Standing.{lifts_by}
-use Rattle.clk_trace.specs.WordHistory.{Placed, steps_of_kind, steps_from, all_steps, placed_lift, lift_steps, steps_of, steps_on, line_of}
+use Rattle.clk_trace.specs.WordHistory.{Placed, steps_of_kind, steps_from, all_steps, placed_lift, lift_steps, steps_of, placed_on, line_of}
 use Rattle.clk_trace.specs.declared.event.Event.{Event}
 use Rattle.clk_trace.specs.declared.event.EventKind.{EventKind}
 use Rattle.clk_trace.specs.declared.event.EventKind.TheVariants.{Stable, Local, Couple, Stamp, Nothing, Update, Pause}
@@ -33,7 +33,7 @@ few_steps thread cpu part (e ∷ es) =
 
 pub few_lines : (w : ℕ) (steps : List Placed) → length (lines_on w steps) ≤ length steps
 few_lines w steps =
-    let lines = length-map (steps_on w steps) line_of in
+    let lines = length-map (placed_on w steps) line_of in
     let both = length-filter_both (λ (p : Placed). nat_eq p.step.word w) (λ p. not (nat_eq p.step.word w)) (λ p. refl) steps in
     omega (arith, lines, both)
 

@@ -2,26 +2,24 @@
 use Rattle.std.proofs.Common.{◌≡◌, ℕ, ◌+◌, ◌<◌, ◌≤◌, ℤ, Bool, true, false, cond, nat_eq, List, [], ◌∷◌, ◌++◌, map, length, get_or, set, take, get_or-set_same, get_or-set_other, ◌≢◌, ◌⊎◌, inl, inr, drop, drop-cons, add-one, refl, sym, ◌∙◌, ap, subst, arith, append_assoc, append-nil, length-append, suc}
 use Rattle.std.proofs.Math.Seq.{take-append_seam}
 use Rattle.std.proofs.lemmas.List.{map-append, get_or_default}
-use Rattle.std.specs.List.{refill, All}
-use Rattle.std.specs.List.Sorted.{IsPermutation}
+use Rattle.std.specs.List.{refill}
 use Rattle.std.proofs.lemmas.List.Elements.{filter-append}
 use Rattle.clk_base.specs.Walk.{EachFrom}
 use Rattle.clk_num.specs.Listed.{Listed}
-use Rattle.clk_trace.specs.Filling.{lines_on, Gained, HasRoomFor, Sorts, AreSorted}
-use Rattle.clk_trace.specs.WordHistory.{Placed, steps_of_kind, steps_from, all_steps, placed_lift, lift_steps, steps_of, steps_on, line_of, IsHistoryOf}
+use Rattle.clk_trace.specs.Filling.{lines_on, Gained, HasRoomFor, Sorts}
+use Rattle.clk_trace.specs.WordHistory.{Placed, steps_of_kind, steps_from, placed_lift, placed_on, line_of}
 use Rattle.clk_words.specs.declared.step.Step.{Step}
-use Rattle.clk_trace.specs.declared.trace.Trace.{Trace}
 use Rattle.clk_trace.specs.declared.event.Event.{Event}
 use Rattle.clk_trace.specs.declared.trace.HistoryStep.{HistoryStep}
 
-gained_none : (a : List (Listed HistoryStep)) → Gained a a (λ w. [])
+pub gained_none : (a : List (Listed HistoryStep)) → Gained a a (λ w. [])
 gained_none a = record {
   count = refl;
   items = λ w d low. sym (append-nil (get_or a w d).items);
   room = λ w d low. omega arith;
 }
 
-gained_more : (a b c : List (Listed HistoryStep)) (f g : ℕ → List HistoryStep) → Gained a b f → Gained b c g → Gained a c (λ w. f w ++ g w)
+pub gained_more : (a b c : List (Listed HistoryStep)) (f g : ℕ → List HistoryStep) → Gained a b f → Gained b c g → Gained a c (λ w. f w ++ g w)
 gained_more a b c f g p q = record {
   count = q.count ∙ p.count;
   items = λ w d low.
@@ -89,7 +87,7 @@ fills_end start now whole left none f = f.goes now (gained_same now now (λ w. [
 
 pub lines_on-append : (w : ℕ) (xs ys : List Placed) → lines_on w (xs ++ ys) ≡ lines_on w xs ++ lines_on w ys
 lines_on-append w xs ys =
-    ap (map line_of) (filter-append (λ (p : Placed). nat_eq p.step.word w) xs ys) ∙ map-append line_of (steps_on w xs) (steps_on w ys)
+    ap (map line_of) (filter-append (λ (p : Placed). nat_eq p.step.word w) xs ys) ∙ map-append line_of (placed_on w xs) (placed_on w ys)
 
 -- those of one step
 one_by : (b : Bool) (p : Placed) → map line_of (cond b (p ∷ []) []) ≡ cond b (line_of p ∷ []) []
@@ -109,18 +107,6 @@ thread_next thread cpu es i d low w =
     ∙ lines_on-append w (steps_of_kind thread cpu e.call i e.kind) (steps_from thread cpu (i + 1) (drop (suc i) es))
     ∙ ap (λ (n : ℕ). lines_on w (steps_of_kind thread cpu e.call i e.kind) ++ lines_on w (steps_from thread cpu (i + 1) (drop n es))) (sym (add-one i))
 
--- the next thread
-pub threads_next : (cpus : List ℕ) (threads : List (Listed Event)) (i c : ℕ) (d : Listed Event) → i < length cpus → i < length threads → (w : ℕ)
-    → lines_on w (all_steps i (drop i cpus) (drop i threads))
-    ≡ lines_on w (steps_from i (get_or cpus i c) 0 (get_or threads i d).items) ++ lines_on w (all_steps (i + 1) (drop (i + 1) cpus) (drop (i + 1) threads))
-threads_next cpus threads i c d here low w =
-    let cpu : ℕ = get_or cpus i c in
-    let es : Listed Event = get_or threads i d in
-    ap (λ (xs : List ℕ). lines_on w (all_steps i xs (drop i threads))) (drop-cons cpus i c here)
-    ∙ ap (λ (xs : List (Listed Event)). lines_on w (all_steps i (cpu ∷ drop (suc i) cpus) xs)) (drop-cons threads i d low)
-    ∙ lines_on-append w (steps_from i cpu 0 es.items) (all_steps (i + 1) (drop (suc i) cpus) (drop (suc i) threads))
-    ∙ ap (λ (n : ℕ). lines_on w (steps_from i cpu 0 es.items) ++ lines_on w (all_steps (i + 1) (drop n cpus) (drop n threads))) (sym (add-one i))
-
 -- the next lift
 pub lifts_next : (thread : ℕ) (lifts : List Step) (i : ℕ) (d : Step) → i < length lifts → (w : ℕ)
     → lines_on w (map (placed_lift thread) (drop i lifts))
@@ -130,15 +116,6 @@ lifts_next thread lifts i d low w =
     ap (λ (xs : List Step). lines_on w (map (placed_lift thread) xs)) (drop-cons lifts i d low)
     ∙ lines_on-append w (p ∷ []) (map (placed_lift thread) (drop (suc i) lifts))
     ∙ ap (λ (n : ℕ). lines_on w (p ∷ []) ++ lines_on w (map (placed_lift thread) (drop n lifts))) (sym (add-one i))
-
--- the steps of the threads, and then the lifts
-pub gained_steps : (t : Trace) (a b c : List (Listed HistoryStep)) → Gained a b (λ w. lines_on w (all_steps 0 t.cpu_of.items t.threads.items))
-    → Gained b c (λ w. lines_on w (lift_steps t.watch)) → Gained a c (λ w. lines_on w (steps_of t))
-gained_steps t a b c p q =
-    let steps : List Placed = all_steps 0 t.cpu_of.items t.threads.items in
-    let lifts : List Placed = lift_steps t.watch in
-    gained_same a c (λ w. lines_on w steps ++ lines_on w lifts) (λ w. lines_on w (steps_of t)) (λ w. sym (lines_on-append w steps lifts))
-    (gained_more a b c (λ w. lines_on w steps) (λ w. lines_on w lifts) p q)
 
 -- what holds at each place holds of each item and its number
 pub each_from : {A : Type 0} (P : ℕ → A → Type 0) (n : ℕ) (xs : List A) → ((k : ℕ) (d : A) → k < length xs → P (n + k) (get_or xs k d)) → EachFrom P n xs
@@ -183,22 +160,3 @@ sorts_more opening n first now item next low done sorts = (
       let apart : w ≢ n = omega (arith, high) in
       get_or-set_other now n w next d apart ∙ done.1 w d (omega (arith, high)),
 )
-
--- empty lists that gained each word's lines, and then were sorted, are the histories
-pub filled : (opening : ℤ) (t : Trace) (start full sorted : List (Listed HistoryStep)) → All (λ l. l.items ≡ []) start
-    → Gained start full (λ w. lines_on w (steps_of t)) → AreSorted opening full sorted
-    → EachFrom (λ w lines. IsHistoryOf opening (steps_on w (steps_of t)) lines.items) 0 sorted
-filled opening t start full sorted empty gained sorts = each_from (λ w lines. IsHistoryOf opening (steps_on w (steps_of t)) lines.items) 0 sorted each
-  where
-    each : (k : ℕ) (d : Listed HistoryStep) → k < length sorted → IsHistoryOf opening (steps_on (0 + k) (steps_of t)) (get_or sorted k d).items
-    each k d low =
-        let first = gained.count in
-        let second = sorts.count in
-        let in_start : k < length start = omega (arith, first, second, low) in
-        let in_full : k < length full = omega (arith, second, low) in
-        let zero : 0 + k ≡ k = omega arith in
-        let lines : (get_or full k d).items ≡ lines_on k (steps_of t) =
-        gained.items k d in_start ∙ ap (λ (xs : List HistoryStep). xs ++ lines_on k (steps_of t)) (empty k d in_start) in
-        let here = sorts.each k d in_full in
-        subst (λ (w : ℕ). IsHistoryOf opening (steps_on w (steps_of t)) (get_or sorted k d).items) (sym zero)
-        (record { all = subst (λ (xs : List HistoryStep). IsPermutation xs (get_or sorted k d).items) lines here.all; sorted = here.sorted })

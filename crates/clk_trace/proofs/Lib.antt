@@ -6,6 +6,7 @@ pub mod WholeText
 pub mod Passing
 pub mod Naming
 pub mod Gaining
+pub mod Keeping
 pub mod Sorting
 pub mod Few
 pub mod CountingBlocks

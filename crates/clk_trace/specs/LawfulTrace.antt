@@ -15,7 +15,7 @@ use Rattle.clk_trace.specs.Standing.{is_stable, begins_stable, standing_offset}
 use Rattle.clk_trace.specs.Modes.{modes_of, IsOfMode, turned_after}
 use Rattle.clk_trace.specs.RightReadings.{HasRightReadings}
 use Rattle.clk_trace.specs.Stamps.{no_pair, first_pair, last_pair, stamp_zero, stamps_of, NamesPair, pair_after, first_numbers, NamesStamps, numbers_after}
-use Rattle.clk_trace.specs.WordHistory.{steps_of, steps_on, line_of}
+use Rattle.clk_trace.specs.WordHistory.{steps_of, placed_on, line_of}
 use Rattle.clk_trace.specs.LegalHistory.{ReachesTarget, NamesSource, IsLegalHistory}
 use Rattle.clk_trace.specs.SeenBefore.{stood_at, NeverFalls}
 use Rattle.clk_trace.specs.Watchdog.{AreChecks, AreCalledFor}
@@ -50,7 +50,7 @@ pub record HasOpening (m : Plan) (t : Trace) : Type 0 where
 -- owner its last one, and so the last before the reading, a reader none older than the reading before
 pub record HasLegalHistories (m : Plan) (t : Trace) : Type 0 where
   pub count : length t.histories.items ≡ cpu_count m
-  pub words : EachFrom (λ w lines. IsLegalHistory t.start_word (steps_on w (steps_of t)) lines.items) 0 t.histories.items
+  pub words : EachFrom (λ w lines. IsLegalHistory t.start_word (placed_on w (steps_of t)) lines.items) 0 t.histories.items
   pub targets : All (ReachesTarget m.tick) (steps_of t)
   pub sources : All (λ p. NamesSource t.start_word (steps_of t) p.step.why) (steps_of t)
   pub owners : All (λ es. Along (λ p e. NamesPair (standing_offset t) p e.kind) (λ p e. pair_after p e.kind) (stamp_zero t) es.items) (owners m t)

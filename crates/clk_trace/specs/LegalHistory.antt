@@ -7,7 +7,7 @@ use Rattle.clk_words.specs.declared.step.Why.{Why}
 use Rattle.clk_words.specs.declared.step.Why.TheVariants.{Raise, Couple, Lift}
 use Rattle.clk_words.specs.Targets.{target}
 use Rattle.clk_trace.specs.Lines.{step_line}
-use Rattle.clk_trace.specs.WordHistory.{Placed, steps_on, IsHistoryOf}
+use Rattle.clk_trace.specs.WordHistory.{Placed, placed_on, IsHistoryOf}
 use Rattle.clk_trace.specs.declared.trace.HistoryStep.{HistoryStep}
 
 -- ---- a single step
@@ -18,7 +18,7 @@ ReachesTarget tick p = p.step.new ≡ raise p.step.old (target tick p.step.why)
 
 -- what a word held at some moment
 abbrev pub held_by : ℤ → List Placed → ℕ → List ℤ
-held_by opening steps w = opening ∷ map (λ p. p.step.new) (steps_on w steps)
+held_by opening steps w = opening ∷ map (λ p. p.step.new) (placed_on w steps)
 
 -- what was brought into some word by another step than a coupling, and the opening
 abbrev pub is_coupling : Why → Bool

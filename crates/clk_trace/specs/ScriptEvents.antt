@@ -8,10 +8,10 @@ use Rattle.clk_trace.specs.declared.event.EventKind.{EventKind}
 use Rattle.clk_trace.specs.declared.event.EventKind.TheVariants.{Stable, Local, Couple, Stamp, Nothing, Update, Pause}
 
 -- a reading of the own clock, in either mode
-abbrev pub IsReading : List EventKind → Type 0
-IsReading (Stable raw value ∷ []) = Unit {0}
-IsReading (Local raw tick_raw tick_gtod offset old new ∷ []) = Unit {0}
-IsReading _ = ⊥
+abbrev pub IsOwnReading : List EventKind → Type 0
+IsOwnReading (Stable raw value ∷ []) = Unit {0}
+IsOwnReading (Local raw tick_raw tick_gtod offset old new ∷ []) = Unit {0}
+IsOwnReading _ = ⊥
 
 -- a reading of another CPU's clock: per-CPU it is a reading of the own clock first
 abbrev pub IsRemoteReading : ℕ → List EventKind → Type 0
@@ -28,7 +28,7 @@ IsTick _ = ⊥
 -- the end of an idle time: a reading and then a tick
 abbrev pub IsIdle : List EventKind → Type 0
 IsIdle [] = ⊥
-IsIdle (k ∷ ks) = IsReading (k ∷ []) × IsTick ks
+IsIdle (k ∷ ks) = IsOwnReading (k ∷ []) × IsTick ks
 
 abbrev pub IsUpdate : List EventKind → Type 0
 IsUpdate (Update p ∷ []) = Unit {0}
@@ -40,8 +40,8 @@ IsPause n _ = ⊥
 
 -- what one script word of a thread on this CPU calls for; a remote reading of the own CPU is a reading of the own clock
 abbrev pub Calls : ℕ → Word → List EventKind → Type 0
-Calls cpu word.Local ks = IsReading ks
-Calls cpu (word.Remote d) ks = MatchBool (count_of d == cpu) (IsReading ks) (IsRemoteReading (count_of d) ks)
+Calls cpu word.Local ks = IsOwnReading ks
+Calls cpu (word.Remote d) ks = MatchBool (count_of d == cpu) (IsOwnReading ks) (IsRemoteReading (count_of d) ks)
 Calls cpu word.Tick ks = IsTick ks
 Calls cpu word.Idle ks = IsIdle ks
 Calls cpu word.Update ks = IsUpdate ks

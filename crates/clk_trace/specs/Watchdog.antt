@@ -4,7 +4,7 @@ use Rattle.std.specs.List.{AllZip}
 use Rattle.clk_machine.specs.Plan.{Plan, threads_of}
 use Rattle.clk_watch.specs.declared.record.SourceRecord.{SourceRecord}
 use Rattle.clk_watch.specs.Fold.{ends_check, at_first, watch_after, ratings_of, IsCurrent, AreVisits}
-use Rattle.clk_watch.specs.Watching.{checks_in as checks_asked}
+use Rattle.clk_watch.specs.Watching.{checks_asked}
 use Rattle.clk_trace.specs.Checks.{listed, visits_of, checks_of}
 use Rattle.clk_trace.specs.declared.trace.WatchTrace.{WatchTrace}
 

@@ -69,8 +69,8 @@ abbrev pub steps_of : Trace → List Placed
 steps_of t = all_steps 0 t.cpu_of.items t.threads.items ++ lift_steps t.watch
 
 -- those on the word w, wherever they were made
-abbrev pub steps_on : ℕ → List Placed → List Placed
-steps_on w steps = filter (λ p. p.step.word == w) steps
+abbrev pub placed_on : ℕ → List Placed → List Placed
+placed_on w steps = filter (λ p. p.step.word == w) steps
 
 -- the line that a history keeps of a step
 abbrev pub line_of : Placed → HistoryStep

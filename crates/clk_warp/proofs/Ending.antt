@@ -17,9 +17,9 @@ use Rattle.clk_warp.specs.declared.view.Stage.TheVariants.{Away}
 use Rattle.clk_warp.specs.declared.view.View.{View}
 use Rattle.clk_warp.specs.Run.{Run}
 use Rattle.clk_warp.specs.Sections.{after, AreSections}
-use Rattle.clk_warp.specs.Kept.{Locked, next, serving, rank, place, Known, NoneIs, Kept, knows_first, knows_side, knows_both, knows_nothing}
+use Rattle.clk_warp.specs.LockRule.{Locked, next, serving, rank, place, Known, NoneIs, Kept, knows_first, knows_side, knows_both, knows_nothing}
 use Rattle.clk_warp.proofs.Folding.{prefix_self, at_below}
-use Rattle.clk_warp.proofs.Keeping.{total_set, view_set, none_before, apart_set}
+use Rattle.clk_warp.proofs.LockSteps.{total_set, view_set, none_before, apart_set}
 
 -- ---- roles
 

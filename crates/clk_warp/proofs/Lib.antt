@@ -3,7 +3,7 @@ pub mod Counting
 pub mod Meaning
 pub mod Stating
 pub mod Folding
-pub mod Keeping
+pub mod LockSteps
 pub mod Ending
 pub mod Seating
 pub mod Working

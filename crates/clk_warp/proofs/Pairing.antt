@@ -1,5 +1,5 @@
 -- What a joined pair has made: both sides ended, and the tickets are those of its readings.
-use Rattle.std.proofs.Common.{◌≡◌, ℕ, ◌+◌, ◌-◌, ◌<◌, Bool, true, false, cond, ◌||◌, List, [], ◌∷◌, ◌++◌, map, Option, Some, None, ℤ, append_assoc, append-nil, refl, sym, ap, ap₂, ◌∙◌, subst, arith}
+use Rattle.std.proofs.Common.{◌≡◌, ℕ, ◌-◌, ◌<◌, Bool, true, false, cond, ◌||◌, List, [], ◌∷◌, ◌++◌, map, Option, Some, None, ℤ, append_assoc, append-nil, refl, sym, ap, ap₂, ◌∙◌, subst, arith}
 use Rattle.std.specs.Prelude.{option_map, is_some}
 use Rattle.std.proofs.lemmas.List.Sums.{sum_by_push}
 use Rattle.std.proofs.lemmas.List.Elements.{All-nil, All-cons}
@@ -18,7 +18,7 @@ use Rattle.clk_warp.specs.declared.section.Section.TheVariants.{Read, SourceArri
 use Rattle.clk_warp.specs.Sides.{is_same}
 use Rattle.clk_warp.specs.Falls.{Limits, each_after, ended_sides, is_last, is_ended}
 use Rattle.clk_warp.specs.declared.side.WarpRun.{WarpRun}
-use Rattle.clk_warp.specs.Run.{Run, limits_in, limits_at, side_ended, cpu_of, adjust_of, ShowsCounter, new_run, change, IsReading}
+use Rattle.clk_warp.specs.Run.{Run, limits_in, limits_at, side_ended, cpu_of, side_adjust, ShowsCounter, new_run, change, IsReading}
 use Rattle.clk_warp.specs.Warps.{IsWarpRun}
 use Rattle.clk_warp.specs.Sections.{after, AreSections}
 use Rattle.clk_warp.specs.Turns.{Lock, Turn, Closes}
@@ -123,13 +123,13 @@ draws_for t (r ∷ rs) drawn =
 -- ---- a finished run
 
 shows_by : (m n : Plan) (cpu other : ℕ) (adjust more : ℤ) (rs qs : List WarpReading) → m ≡ n → cpu ≡ other → adjust ≡ more → rs ≡ qs
-    → All (λ r. r.tsc ≡ counter_at m (cpu_of r.side cpu) (adjust_of r.side adjust) r.ticket) rs
-    → All (λ r. r.tsc ≡ counter_at n (cpu_of r.side other) (adjust_of r.side more) r.ticket) qs
+    → All (λ r. r.tsc ≡ counter_at m (cpu_of r.side cpu) (side_adjust r.side adjust) r.ticket) rs
+    → All (λ r. r.tsc ≡ counter_at n (cpu_of r.side other) (side_adjust r.side more) r.ticket) qs
 shows_by m n cpu other adjust more rs qs e f g h all =
-    subst (λ (xs : List WarpReading). All (λ r. r.tsc ≡ counter_at n (cpu_of r.side other) (adjust_of r.side more) r.ticket) xs) h
-    (subst (λ (z : ℤ). All (λ r. r.tsc ≡ counter_at n (cpu_of r.side other) (adjust_of r.side z) r.ticket) rs) g
-    (subst (λ (k : ℕ). All (λ r. r.tsc ≡ counter_at n (cpu_of r.side k) (adjust_of r.side adjust) r.ticket) rs) f
-    (subst (λ (p : Plan). All (λ r. r.tsc ≡ counter_at p (cpu_of r.side cpu) (adjust_of r.side adjust) r.ticket) rs) e all)))
+    subst (λ (xs : List WarpReading). All (λ r. r.tsc ≡ counter_at n (cpu_of r.side other) (side_adjust r.side more) r.ticket) xs) h
+    (subst (λ (z : ℤ). All (λ r. r.tsc ≡ counter_at n (cpu_of r.side other) (side_adjust r.side z) r.ticket) rs) g
+    (subst (λ (k : ℕ). All (λ r. r.tsc ≡ counter_at n (cpu_of r.side k) (side_adjust r.side adjust) r.ticket) rs) f
+    (subst (λ (p : Plan). All (λ r. r.tsc ≡ counter_at p (cpu_of r.side cpu) (side_adjust r.side adjust) r.ticket) rs) e all)))
 
 pub paired : (m : Plan) (cpu : ℕ) (adjust : ℤ) (t : Time) (first state : Run) (run : WarpRun) (now : Time) → first ≡ new_run m cpu adjust t → IsFinished first state
     → IsWarpRun (limits_at state) run → run.readings.items ≡ state.readings → All (ShowsCounter state) state.readings → state.time ≡ Some now

@@ -13,10 +13,10 @@ use Rattle.clk_warp.specs.declared.view.View.{View}
 use Rattle.clk_warp.specs.Run.{Run, change, IsSection}
 use Rattle.clk_warp.specs.Sections.{after, AreSections, MayMake, sections_of}
 use Rattle.clk_warp.specs.Turns.{Enters, IsChanged, Leaves, Closes}
-use Rattle.clk_warp.specs.Kept.{Kept, knows_ticket, knows_called, knows_inside, knows_given, knows_away, knows_both, Took, Gave, Raised}
-use Rattle.clk_warp.specs.Seated.{turn_of, IsSeated}
+use Rattle.clk_warp.specs.LockRule.{Kept, knows_ticket, knows_called, knows_inside, knows_given, knows_away, knows_both, Took, Gave, Raised}
+use Rattle.clk_warp.specs.TurnSeats.{turn_of, IsSeated}
 use Rattle.clk_warp.specs.Locking.{Place, IsOutside, IsWaiting, HasDrawn, HasBeenCalled}
-use Rattle.clk_warp.proofs.Keeping.{giving, raises}
+use Rattle.clk_warp.proofs.LockSteps.{giving, raises}
 use Rattle.clk_warp.proofs.Ending.{IsEnd}
 
 abbrev pub MeOf : Type 0

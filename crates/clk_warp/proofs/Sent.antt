@@ -12,27 +12,28 @@ use Rattle.std.proofs.Crossing.{crosses}
 use Rattle.atomic_table.proofs.shared.Seat.TheSendSync.{the_send as table_seat_send}
 use Rattle.atomic_table.proofs.shared.Shared.TheSendSync.{the_send as table_send, the_sync as table_sync}
 use Rattle.atomic_table.proofs.send_lease.SendLease.TheSendSync.{the_send as lease_send, the_sync as lease_sync}
-use Rattle.clk_num.specs.contracts.list.List as List
-use Rattle.clk_machine.specs.contracts.machine.Machine as Machine
-use Rattle.clk_machine.specs.contracts.parts.Parts as Parts
-use Rattle.clk_machine.specs.contracts.parts.CpuPart as CpuPart
-use Rattle.clk_machine.specs.contracts.parts.ReaderPart as ReaderPart
-use Rattle.clk_machine.specs.contracts.parts.SourcePart as SourcePart
-use Rattle.clk_machine.specs.contracts.parts.ReferencePart as ReferencePart
-use Rattle.clk_machine.specs.contracts.parts.BringUpPart as BringUpPart
-use Rattle.clk_machine.specs.contracts.parts.WatchPart as WatchPart
-use Rattle.clk_machine.specs.contracts.parts.Delay as Delay
-use Rattle.clk_machine.specs.contracts.parts.Jump as Jump
-use Rattle.clk_machine.specs.contracts.script.Script as Script
-use Rattle.clk_machine.specs.contracts.script.Word as Word
-use Rattle.clk_ticket.specs.contracts.seat.TimeSeat as TimeSeat
-use Rattle.clk_ticket.specs.contracts.table.TicketTable as TicketTable
-use Rattle.clk_warp.specs.contracts.counts.WarpCounts as WarpCounts
-use Rattle.clk_warp.specs.contracts.side.WarpReading as WarpReading
-use Rattle.clk_warp.specs.contracts.state.TableOf as TableOf
-use Rattle.clk_warp.specs.contracts.state.WarpState as WarpState
-use Rattle.clk_warp.specs.contracts.seat.TurnSeat as TurnSeat
-use Rattle.clk_warp.specs.contracts.lock.TurnLock as TurnLock
+use Rattle.clk_num.specs.contracts.list.List
+use Rattle.clk_machine.specs.contracts.machine.Machine
+use Rattle.clk_machine.specs.contracts.parts.Parts
+use Rattle.clk_machine.specs.contracts.parts.CpuPart
+use Rattle.clk_machine.specs.contracts.parts.ReaderPart
+use Rattle.clk_machine.specs.contracts.parts.SourcePart
+use Rattle.clk_machine.specs.contracts.parts.ReferencePart
+use Rattle.clk_machine.specs.contracts.parts.BringUpPart
+use Rattle.clk_machine.specs.contracts.parts.WatchPart
+use Rattle.clk_machine.specs.contracts.parts.Delay
+use Rattle.clk_machine.specs.contracts.parts.Jump
+use Rattle.clk_machine.specs.contracts.script.Script
+use Rattle.clk_machine.specs.contracts.script.Word
+use Rattle.clk_ticket.specs.contracts.seat.TimeSeat
+use Rattle.clk_ticket.specs.contracts.table.TicketTable
+use Rattle.clk_warp.specs.contracts.counts.WarpCounts
+use Rattle.clk_warp.specs.contracts.side.WarpReading
+use Rattle.clk_warp.specs.contracts.state.TableOf
+use Rattle.clk_warp.specs.contracts.state.Inner
+use Rattle.clk_warp.specs.contracts.state.WarpState
+use Rattle.clk_warp.specs.contracts.seat.TurnSeat
+use Rattle.clk_warp.specs.contracts.lock.TurnLock
 
 time_sent : IsSend TimeSeat.the_row
 time_sent = search (sendable, crosses, table_seat_send) depth 60
@@ -49,8 +50,11 @@ reading_sent = search (sendable, crosses) depth 60
 readings_sent : IsSend (List.the_row WarpReading.the_row)
 readings_sent = search (sendable, crosses, reading_sent) depth 60
 
+inner_sent : IsSend Inner.the_row
+inner_sent = search (time_sent, table_of_sent, counts_sent, readings_sent, sendable, crosses) depth 60 fits 20000
+
 pub state_sent : IsSend WarpState.the_row
-state_sent = search (time_sent, table_of_sent, counts_sent, readings_sent, sendable, crosses) depth 60 fits 20000
+state_sent = search (inner_sent, sendable, crosses) depth 60
 
 pub seat_sent : IsSend TurnSeat.the_row
 seat_sent = search (sendable, crosses, table_seat_send, state_sent) depth 60

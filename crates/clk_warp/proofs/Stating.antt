@@ -1,11 +1,11 @@
 -- The state keeps its promises over one more reading.
-use Rattle.std.proofs.Common.{◌≡◌, ℕ, ◌+◌, ◌*◌, ◌^◌, ◌<◌, ◌≤◌, Bool, true, false, not, ◌&&◌, List, [], ◌∷◌, ◌++◌, length, ℤ, if◌then◌else◌, Option, Some, None, IfSome, inr, append_assoc, append-nil, refl, sym, ap, ◌∙◌, subst, mul-le-mul, arith}
+use Rattle.std.proofs.Common.{◌≡◌, ℕ, ◌+◌, ◌*◌, ◌^◌, ◌<◌, ◌≤◌, Bool, true, false, not, ◌&&◌, List, [], ◌∷◌, ◌++◌, length, ℤ, if◌then◌else◌, Option, Some, None, IfSome, inr, append_assoc, append-nil, refl, sym, ap, ◌∙◌, subst, arith}
 use Rattle.std.specs.Prelude.{option_map, is_some, IsSomeAnd}
 use Rattle.std.proofs.lemmas.List.{length_push}
 use Rattle.std.proofs.lemmas.List.Elements.{All-push}
 use Rattle.clk_ticket.specs.Time.{Time, Draws, after_draw}
 use Rattle.clk_machine.specs.Plan.{Plan, count_of}
-use Rattle.clk_machine.specs.Limits.{IsBringUp, IfThere, IsWithinLimits}
+use Rattle.clk_machine.specs.Limits.{IsBringUp, IfThere}
 use Rattle.clk_machine.specs.Time.{counter_at}
 use Rattle.clk_machine.specs.Timeouts.{is_first_of_socket}
 use Rattle.clk_machine.specs.declared.parts.BringUpPart.{BringUpPart}
@@ -14,14 +14,15 @@ use Rattle.clk_warp.specs.declared.side.Side.TheVariants.{Source, Target}
 use Rattle.clk_warp.specs.declared.side.WarpReading.{WarpReading}
 use Rattle.clk_warp.specs.declared.progress.Progress.{Progress}
 use Rattle.clk_warp.specs.declared.counts.WarpCounts.{WarpCounts}
+use Rattle.clk_warp.specs.declared.state.Inner.{Inner}
 use Rattle.clk_warp.specs.declared.section.Section.TheVariants.{Read}
 use Rattle.clk_warp.specs.Sides.{of_side}
 use Rattle.clk_warp.specs.Falls.{Limits, AreInTurn, is_ended, is_started}
 use Rattle.clk_warp.specs.Few.{IsFew}
 use Rattle.clk_warp.specs.Counts.{progress_of, AreCountsOf}
 use Rattle.clk_warp.proofs.Counting.{progress_at}
-use Rattle.clk_warp.specs.Run.{Run, timeout_in, limits_in, limits_at, most_readings, cpu_of, adjust_of, both_here, side_ended, change, ShowsCounter, IsReading}
-use Rattle.clk_warp.specs.Stated.{IsKept}
+use Rattle.clk_warp.specs.Run.{Run, timeout_in, limits_at, most_readings, cpu_of, side_adjust, both_here, side_ended, change, ShowsCounter, IsReading}
+use Rattle.clk_warp.specs.Stated.{run_of, IsKept}
 
 -- ---- the span is small
 
@@ -92,6 +93,10 @@ kept_read s room after c d r kept reads less counts =
       less_left None h = h
       less_left (Some t) h = (h.0, omega (arith, h.1, length_push s.readings r))
 
+-- what stands behind the state's box keeps its promises
+pub kept_behind : (i j : Inner) → i ≡ j → IsKept (run_of j) j.readings.room j.counts → IsKept (run_of i) i.readings.room i.counts
+kept_behind i j e kept = subst (λ (x : Inner). IsKept (run_of x) x.readings.room x.counts) (sym e) kept
+
 -- a ticket is left
 pub ticket_left : (s : Run) (t : Option Time) (b : Bool) (n : ℕ) → (is_some t && b) ≡ true → IfSome t (λ u. (u.table ≡ s.tickets) × (most_readings s.machine ≤ u.left + n))
     → n < most_readings s.machine → IsSomeAnd t (λ u. (u.table ≡ s.tickets) × (0 < u.left))
@@ -115,7 +120,7 @@ far_from_end n m e most = omega arith
 -- a reading of the state as it was opened is one of the state as it was handed in
 pub reading_is : (side : Side) (s now : Run) (room : ℕ) (c : WarpCounts) (p : Progress) (k tsc : ℕ) (machine : Plan) → s ≡ now → IsKept s room c
     → both_here now ≡ true → side_ended side now ≡ false → p ≡ progress_of side c → IsSomeAnd s.time (λ t. Draws t k 1 (after_draw t k 1)) → machine ≡ now.machine
-    → tsc ≡ counter_at machine (cpu_of side s.cpu) (adjust_of side s.adjust) k → IsReading s (record { side = side; start = not p.started; ticket = k; tsc = tsc })
+    → tsc ≡ counter_at machine (cpu_of side s.cpu) (side_adjust side s.adjust) k → IsReading s (record { side = side; start = not p.started; ticket = k; tsc = tsc })
 reading_is side s now room c p k tsc machine e kept here going progress drew same value =
     let drawn = drawn_time s.time k drew in
     let at = progress_at side (limits_at s) s.readings c kept.counted in
@@ -127,5 +132,5 @@ reading_is side s now room c p k tsc machine e kept here going progress drew sam
       time = drawn.time;
       has = drawn.has;
       draws = drawn.draws;
-      shows = subst (λ (m : Plan). tsc ≡ counter_at m (cpu_of side s.cpu) (adjust_of side s.adjust) k) machine_is value;
+      shows = subst (λ (m : Plan). tsc ≡ counter_at m (cpu_of side s.cpu) (side_adjust side s.adjust) k) machine_is value;
     }

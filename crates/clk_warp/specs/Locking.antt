@@ -6,7 +6,7 @@ use Rattle.clk_warp.specs.declared.view.Role.TheVariants.{Of}
 use Rattle.clk_warp.specs.declared.view.Stage.TheVariants.{Away, Waiting}
 use Rattle.clk_warp.specs.declared.view.View.{View}
 use Rattle.clk_warp.specs.Run.{Run}
-use Rattle.clk_warp.specs.Kept.{knows_ticket, knows_called}
+use Rattle.clk_warp.specs.LockRule.{knows_ticket, knows_called}
 
 abbrev pub Place : Type 0
 Place = Seat (Option Run) View

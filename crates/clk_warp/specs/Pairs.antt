@@ -11,7 +11,7 @@ use Rattle.clk_warp.specs.declared.side.Side.TheVariants.{Source, Target}
 use Rattle.clk_warp.specs.declared.side.WarpReading.{WarpReading}
 use Rattle.clk_warp.specs.declared.side.WarpRun.{WarpRun}
 use Rattle.clk_warp.specs.declared.section.Section.{Section}
-use Rattle.clk_warp.specs.Run.{Run, limits_in, side_ended, cpu_of, adjust_of}
+use Rattle.clk_warp.specs.Run.{Run, limits_in, side_ended, cpu_of, side_adjust}
 use Rattle.clk_warp.specs.Warps.{IsWarpRun}
 use Rattle.clk_warp.specs.Sections.{after, AreSections}
 use Rattle.clk_warp.specs.Turns.{Lock, Turn, Closes}
@@ -39,7 +39,7 @@ pub record DrawsFor (before : Time) (rs : List WarpReading) (now : Time) : Type 
 -- a finished run of a CPU with this adjustment
 pub record IsPaired (m : Plan) (cpu : ℕ) (adjust : ℤ) (before : Time) (run : WarpRun) (now : Time) : Type 0 where
   pub run_is : IsWarpRun (limits_in m cpu) run
-  pub counters : All (λ r. r.tsc ≡ counter_at m (cpu_of r.side cpu) (adjust_of r.side adjust) r.ticket) run.readings.items
+  pub counters : All (λ r. r.tsc ≡ counter_at m (cpu_of r.side cpu) (side_adjust r.side adjust) r.ticket) run.readings.items
   pub tickets : DrawsFor before run.readings.items now
 
 -- both sides have ended

@@ -64,13 +64,13 @@ abbrev pub cpu_of : Side → ℕ → ℕ
 cpu_of Source cpu = 0
 cpu_of Target cpu = cpu
 
-abbrev pub adjust_of : Side → ℤ → ℤ
-adjust_of Source adjust = pos 0
-adjust_of Target adjust = adjust
+abbrev pub side_adjust : Side → ℤ → ℤ
+side_adjust Source adjust = pos 0
+side_adjust Target adjust = adjust
 
 -- a reading is the counter of its side's CPU at its ticket
 abbrev pub ShowsCounter : Run → WarpReading → Type 0
-ShowsCounter s r = r.tsc ≡ counter_at s.machine (cpu_of r.side s.cpu) (adjust_of r.side s.adjust) r.ticket
+ShowsCounter s r = r.tsc ≡ counter_at s.machine (cpu_of r.side s.cpu) (side_adjust r.side s.adjust) r.ticket
 
 -- ---- sections
 

@@ -7,7 +7,7 @@ use Rattle.atomic_table.specs.Seated.{TableId}
 use Rattle.clk_warp.specs.declared.counts.WarpCounts.{WarpCounts}
 use Rattle.clk_warp.specs.declared.state.TableOf.{TableOf}
 use Rattle.clk_warp.specs.declared.state.TableOf.TheVariants.{OfSeat, OfTable}
-use Rattle.clk_warp.specs.declared.state.WarpState.TheInside.{Inside}
+use Rattle.clk_warp.specs.declared.state.Inner.{Inner}
 use Rattle.clk_warp.specs.Falls.{AreInTurn}
 use Rattle.clk_warp.specs.Counts.{AreCountsOf}
 use Rattle.clk_warp.specs.Run.{Run, limits_at, most_readings, both_here, ShowsCounter}
@@ -16,7 +16,7 @@ abbrev pub table_of : TableOf → TableId
 table_of (OfSeat seat) = seat.value.table
 table_of (OfTable table) = table.value.table
 
-abbrev pub run_of : Inside → Run
+abbrev pub run_of : Inner → Run
 run_of s = record {
   machine = s.machine.value;
   tickets = table_of s.tickets;

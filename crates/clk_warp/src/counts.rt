@@ -34,7 +34,7 @@ pub struct WarpCounts {
 impl WarpCounts {
     ghost use Rattle.clk_warp.specs.Falls.{is_ended};
     ghost use Rattle.clk_warp.specs.Counts.{progress_of, limits_of, AreCountsOf, AddsReading};
-    ghost use Rattle.clk_warp.specs.Keeping.{WithProgress, WithFall, Compares};
+    ghost use Rattle.clk_warp.specs.CountSteps.{WithProgress, WithFall, Compares};
 
     /// The counters of a run in which no reading is made. A side ends on an eighth turn where its counter went on by
     /// more than `span` cycles since its start, or where it made more than `turns` turns, at most 4,096.

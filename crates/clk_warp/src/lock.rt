@@ -3,7 +3,7 @@ ghost use Rattle.std.specs.Prelude.{◌≡◌, ◌≢◌, ◌+◌, ◌^◌, ◌<
 ghost use Rattle.clk_warp.specs.declared.side.Side.TheVariants.{Source, Target};
 ghost use Rattle.clk_warp.specs.Sections.{after};
 ghost use Rattle.clk_warp.specs.Turns.{fresh, Enters, IsChanged, Leaves, Closes};
-ghost use Rattle.clk_warp.specs.Kept.{knows_first};
+ghost use Rattle.clk_warp.specs.LockRule.{knows_first};
 ghost use Rattle.clk_warp.specs.Locking.{IsWaiting, IsOutside, HasDrawn, HasBeenCalled};
 
 use crate::seat::TurnSeat;
@@ -27,8 +27,14 @@ const SERVING: usize = 1;
 
 const STATE: usize = 0;
 
+/// How often a side looks for a free lock before it draws all the same. So a side makes several turns in a row, which
+/// costs less than a change of sides at each turn, and has not made all of its own before the other side's thread has
+/// begun, so that a short run finds a warp more often.
+const PATIENCE: u32 = 512;
+
 /// How often a side looks whether it is served before it lets another thread run: two sides on one core have to go on.
-const LOOKS: u32 = 100;
+/// Letting go is a call of the system, so a side looks for longer than the other one's section takes.
+const LOOKS: u32 = 1_000;
 
 /// A ticket lock over the state of a warp run, which two sides enter in turn. It serves them in the order in which they
 /// drew their lock tickets, as the spinlock of Linux's `check_tsc_warp` does.
@@ -81,6 +87,7 @@ impl TurnLock {
 
     /// Draws the next lock ticket, waits until it is served, and takes the state. The seat is outside. Where all lock
     /// tickets are drawn, 2^64 - 1 of them, it does not return.
+    #[inline(always)]
     pub fn enter<R: Wait>(&self, rt: &R, seat: &mut TurnSeat) -> WarpState
         requires own { seat.old.lock ≡ self.now }
         requires outside { seat.old.inside ≡ false }
@@ -95,14 +102,23 @@ impl TurnLock {
         state.unwrap()
     }
 
-    // The exchange is tried again until one is done. At the last number it draws nothing, so no count wraps.
+    // Waits a while for a free lock, and tries the exchange again until one is done. At the last number it draws
+    // nothing, so no count wraps.
+    #[inline(always)]
     fn draw<R: Wait>(&self, rt: &R, seat: &mut Seat<Option<WarpState>, View>) -> u64
         requires own { seat.old.table_id ≡ self.now.table }
         requires outside { IsOutside seat.old }
         ensures { HasDrawn seat.old result seat.new }
     {
+        let mut looks: u32 = 0;
         for _ in rt.forever() {
             let next = self.table.shared.load::<Look>(seat, NEXT);
+            let serving = self.table.shared.load::<Look>(seat, SERVING);
+            if next != serving && looks < PATIENCE {
+                looks += 1;
+                spin_loop();
+                continue;
+            }
             if next != u64::MAX
                 && self
                     .table
@@ -117,6 +133,7 @@ impl TurnLock {
         unreachable!()
     }
 
+    #[inline(always)]
     fn wait<R: Wait>(&self, rt: &R, seat: &mut Seat<Option<WarpState>, View>, ticket: u64)
         requires own { seat.old.table_id ≡ self.now.table }
         requires waiting { IsWaiting seat.old ticket }
@@ -140,6 +157,7 @@ impl TurnLock {
 
     /// Gives the state back, changed by one section since `enter` gave it, and hands the lock on. The seat is inside,
     /// and does not make a section of the other side. It takes no memory and does not wait.
+    #[inline(always)]
     pub fn leave(&self, seat: &mut TurnSeat, state: WarpState)
         requires own { seat.old.lock ≡ self.now }
         requires inside { seat.old.inside ≡ true }

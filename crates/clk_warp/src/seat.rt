@@ -26,7 +26,7 @@ impl Model for TurnSeat {
 
     ghost Value = { Turn };
 
-    ghost use Rattle.clk_warp.specs.Seated.{turn_of, IsSeated};
+    ghost use Rattle.clk_warp.specs.TurnSeats.{turn_of, IsSeated};
 
     ghost view = { turn_of };
 

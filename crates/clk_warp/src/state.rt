@@ -9,7 +9,7 @@ ghost use Rattle.clk_machine.specs.Time.{counter_at};
 ghost use Rattle.clk_warp.specs.Sides.{of_side};
 ghost use Rattle.clk_warp.specs.declared.side.Side.TheVariants.{Source, Target};
 ghost use Rattle.clk_warp.specs.declared.section.Section.TheVariants.{Read, Pass};
-ghost use Rattle.clk_warp.specs.Run.{turns_in, limits_in, limits_at, most_readings, cpu_of, adjust_of, is_here, both_here as are_here, side_ended, change, IsReading, ShowsCounter, IsStartOf, arrival, new_run, apart_run};
+ghost use Rattle.clk_warp.specs.Run.{turns_in, limits_in, limits_at, most_readings, cpu_of, side_adjust, is_here, both_here as are_here, side_ended, change, IsReading, ShowsCounter, IsStartOf, arrival, new_run, apart_run};
 ghost use Rattle.clk_warp.specs.Counts.{AreCountsOf};
 ghost use Rattle.clk_warp.specs.Warps.{IsWarpRun};
 
@@ -39,15 +39,21 @@ pub enum TableOf {
 /// A contract sees it as a `Run`, `specs/Run.antt`.
 #[derive(Drop)]
 pub struct WarpState {
-    pub(crate) machine: Snapshot<Machine>,
-    pub(crate) tickets: TableOf,
-    pub(crate) cpu: u32,
-    pub(crate) adjust: i64,
-    pub(crate) target_here: bool,
-    pub(crate) time: Option<TimeSeat>,
-    pub(crate) readings: List<WarpReading>,
-    pub(crate) counts: WarpCounts,
-    pub(crate) sections: u64,
+    inner: Box<Inner>,
+}
+
+// On the heap, so that a side which enters or leaves moves a pointer.
+#[derive(Drop)]
+struct Inner {
+    machine: Snapshot<Machine>,
+    tickets: TableOf,
+    cpu: u32,
+    adjust: i64,
+    target_here: bool,
+    time: Option<TimeSeat>,
+    readings: List<WarpReading>,
+    counts: WarpCounts,
+    sections: u64,
 }
 
 impl Model for WarpState {
@@ -57,9 +63,9 @@ impl Model for WarpState {
 
     ghost use Rattle.clk_warp.specs.Stated.{run_of, IsKept};
 
-    ghost view = { run_of };
+    ghost view = { λ s. run_of s.inner.value };
 
-    ghost invariant = { λ s. IsKept (run_of s) s.readings.room s.counts };
+    ghost invariant = { λ s. IsKept (run_of s.inner.value) s.inner.value.readings.room s.inner.value.counts };
 }
 
 impl WarpState {
@@ -83,7 +89,7 @@ impl WarpState {
         let Ok(readings) = room_for_readings(alloc, machine) else {
             return Err((AllocError, time));
         };
-        Ok(WarpState {
+        let inner = Inner {
             machine: Snapshot::of(machine),
             tickets: TableOf::OfSeat(Snapshot::of(&time)),
             cpu,
@@ -93,7 +99,14 @@ impl WarpState {
             readings,
             counts: no_counts(machine, cpu),
             sections: 0,
-        })
+        };
+        match Box::new(alloc, inner) {
+            Ok(inner) => Ok(WarpState { inner }),
+            Err(refused) => {
+                let inner = refused.value;
+                Err((AllocError, inner.time.unwrap()))
+            }
+        }
     }
 
     /// The state of a run of CPU `cpu`, 1 or more, in which no side has arrived. It draws from `tickets` once the
@@ -108,7 +121,7 @@ impl WarpState {
         requires cpu { (1 ≤ cpu) × (cpu < cpu_count machine.now) }
         ensures { IfOk result (λ s. s ≡ apart_run machine.now tickets.now.table cpu) }
     {
-        Ok(WarpState {
+        let inner = Inner {
             machine: Snapshot::of(machine),
             tickets: TableOf::OfTable(Snapshot::of(tickets)),
             cpu,
@@ -118,7 +131,11 @@ impl WarpState {
             readings: room_for_readings(alloc, machine)?,
             counts: no_counts(machine, cpu),
             sections: 0,
-        })
+        };
+        match Box::new(alloc, inner) {
+            Ok(inner) => Ok(WarpState { inner }),
+            Err(_) => Err(AllocError),
+        }
     }
 
     /// Notes that a side has arrived, which it had not. The source brings the run's time seat, of the state's ticket
@@ -130,14 +147,15 @@ impl WarpState {
         requires room { self.old.sections + 1 < 2 ^ 64 }
         ensures { self.new ≡ change self.old (arrival side start) }
     {
+        let inner = &mut *self.inner;
         match start {
             Some((time, adjust)) => {
-                self.time = Some(time);
-                self.adjust = adjust;
+                inner.time = Some(time);
+                inner.adjust = adjust;
             }
-            None => self.target_here = true,
+            None => inner.target_here = true,
         }
-        self.sections += 1;
+        inner.sections += 1;
     }
 
     /// A section that changes nothing else.
@@ -145,7 +163,7 @@ impl WarpState {
         requires { self.old.sections + 1 < 2 ^ 64 }
         ensures { self.new ≡ change self.old Pass }
     {
-        self.sections += 1;
+        self.inner.sections += 1;
     }
 
     /// The cycles that the target adds to its counter. The source has arrived.
@@ -153,14 +171,14 @@ impl WarpState {
         requires { is_here Source self.now ≡ true }
         ensures { result ≡ self.now.adjust }
     {
-        self.adjust
+        self.inner.adjust
     }
 
     /// Whether both sides have arrived.
     pub fn both_here(&self) -> bool
         ensures { result ≡ are_here self.now }
     {
-        self.time.is_some() && self.target_here
+        self.inner.time.is_some() && self.inner.target_here
     }
 
     /// Whether both sides have made their last turn.
@@ -188,18 +206,19 @@ impl WarpState {
         ensures state { self.new ≡ change self.old (Read result) }
         ensures small { result.tsc < 2 ^ 50 }
     {
-        let start = !self.counts.progress(side).started;
-        let ticket = draw_one(tickets, &mut self.time);
-        let tsc = cycles_of(machine, side, self.cpu, self.adjust, ticket);
-        self.counts.add(side, start, tsc);
+        let inner = &mut *self.inner;
+        let start = !inner.counts.progress(side).started;
+        let ticket = draw_one(tickets, &mut inner.time);
+        let tsc = cycles_of(machine, side, inner.cpu, inner.adjust, ticket);
+        inner.counts.add(side, start, tsc);
         let reading = WarpReading {
             side,
             start,
             ticket,
             tsc,
         };
-        self.readings.push(reading);
-        self.sections += 1;
+        inner.readings.push(reading);
+        inner.sections += 1;
         reading
     }
 
@@ -212,15 +231,16 @@ impl WarpState {
         ensures counters { All (ShowsCounter self) self.readings }
         ensures time { self.time ≡ Some result.1 }
     {
+        let inner = Box::into_inner(self.inner);
         let run = WarpRun {
-            readings: self.readings,
-            nr: self.counts.nr,
-            max: self.counts.max,
-            random: self.counts.random,
-            cur_source: self.counts.cur_source,
-            cur_target: self.counts.cur_target,
+            readings: inner.readings,
+            nr: inner.counts.nr,
+            max: inner.counts.max,
+            random: inner.counts.random,
+            cur_source: inner.counts.cur_source,
+            cur_target: inner.counts.cur_target,
         };
-        (run, self.time.unwrap())
+        (run, inner.time.unwrap())
     }
 
     /// The time seat as it was handed in: the state holds one, and no reading.
@@ -229,14 +249,14 @@ impl WarpState {
         requires readings { self.readings ≡ [] }
         ensures { self.time ≡ Some result }
     {
-        self.time.unwrap()
+        Box::into_inner(self.inner).time.unwrap()
     }
 
     /// Whether a side has made its last turn.
     pub(crate) fn ended(&self, side: Side) -> bool
         ensures { result ≡ side_ended side self.now }
     {
-        self.counts.ended(side)
+        self.inner.counts.ended(side)
     }
 
     /// How many readings a side has made.
@@ -244,7 +264,7 @@ impl WarpState {
         ensures count { result ≡ length (of_side side self.now.readings) }
         ensures few { result < 2 ^ 31 }
     {
-        let progress = self.counts.progress(side);
+        let progress = self.inner.counts.progress(side);
         if progress.started {
             progress.turn + 1
         } else {
@@ -256,7 +276,7 @@ impl WarpState {
     pub fn sections(&self) -> u64
         ensures { result ≡ self.now.sections }
     {
-        self.sections
+        self.inner.sections
     }
 }
 
@@ -312,7 +332,7 @@ fn cycles_of(machine: &Machine, side: Side, cpu: u32, adjust: i64, ticket: u64) 
     requires cpu { cpu < cpu_count machine.now }
     requires adjust { IsNear 48 adjust }
     requires ticket { ticket < most_tickets }
-    ensures value { result ≡ counter_at machine.now (cpu_of side cpu) (adjust_of side adjust) ticket }
+    ensures value { result ≡ counter_at machine.now (cpu_of side cpu) (side_adjust side adjust) ticket }
     ensures small { result < 2 ^ 50 }
     ensures limits { IsWithinLimits machine.now }
 {

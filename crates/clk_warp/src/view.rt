@@ -42,14 +42,14 @@ pub struct View {
 pub struct TakingTurns;
 
 impl TableRule<Option<WarpState>, View, Snapshot<WarpState>> for TakingTurns {
-    ghost use Rattle.clk_warp.specs.Kept.{Kept, knows_first};
+    ghost use Rattle.clk_warp.specs.LockRule.{Kept, knows_first};
 
     ghost holds = { λ key. Kept key.value };
 
     ghost first = { λ key. knows_first key.value };
 }
 
-// A load of the next lock ticket, which tells nothing.
+// A load of a lock ticket, the next one or the one that is served, which tells nothing.
 pub(crate) struct Look;
 
 impl Play<Option<WarpState>, View> for Look {
@@ -62,7 +62,7 @@ impl Play<Option<WarpState>, View> for Look {
 pub(crate) struct Draw;
 
 impl Play<Option<WarpState>, View> for Draw {
-    ghost use Rattle.clk_warp.specs.Kept.{Drew};
+    ghost use Rattle.clk_warp.specs.LockRule.{Drew};
 
     ghost then = { Drew };
 }
@@ -71,7 +71,7 @@ impl Play<Option<WarpState>, View> for Draw {
 pub(crate) struct Call;
 
 impl Play<Option<WarpState>, View> for Call {
-    ghost use Rattle.clk_warp.specs.Kept.{Called};
+    ghost use Rattle.clk_warp.specs.LockRule.{Called};
 
     ghost then = { Called };
 }
@@ -80,7 +80,7 @@ impl Play<Option<WarpState>, View> for Call {
 pub(crate) struct Take;
 
 impl Play<Option<WarpState>, View> for Take {
-    ghost use Rattle.clk_warp.specs.Kept.{Took};
+    ghost use Rattle.clk_warp.specs.LockRule.{Took};
 
     ghost then = { Took };
 }
@@ -89,7 +89,7 @@ impl Play<Option<WarpState>, View> for Take {
 pub(crate) struct Give;
 
 impl Play<Option<WarpState>, View> for Give {
-    ghost use Rattle.clk_warp.specs.Kept.{Gave};
+    ghost use Rattle.clk_warp.specs.LockRule.{Gave};
 
     ghost then = { Gave };
 }
@@ -98,7 +98,7 @@ impl Play<Option<WarpState>, View> for Give {
 pub(crate) struct Raise;
 
 impl Play<Option<WarpState>, View> for Raise {
-    ghost use Rattle.clk_warp.specs.Kept.{Raised};
+    ghost use Rattle.clk_warp.specs.LockRule.{Raised};
 
     ghost then = { Raised };
 }
@@ -108,7 +108,7 @@ pub(crate) struct Sides;
 
 impl Split<View> for Sides {
     ghost use Rattle.clk_warp.specs.declared.side.Side.TheVariants.{Source, Target};
-    ghost use Rattle.clk_warp.specs.Kept.{knows_side};
+    ghost use Rattle.clk_warp.specs.LockRule.{knows_side};
 
     ghost left = { knows_side Source };
 
@@ -118,7 +118,7 @@ impl Split<View> for Sides {
 pub(crate) struct Both;
 
 impl Join<View> for Both {
-    ghost use Rattle.clk_warp.specs.Kept.{knows_both, knows_nothing};
+    ghost use Rattle.clk_warp.specs.LockRule.{knows_both, knows_nothing};
 
     ghost both = { knows_both };
 

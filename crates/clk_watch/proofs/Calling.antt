@@ -12,7 +12,7 @@ use Rattle.clk_watch.specs.declared.record.Outcome.{Outcome}
 use Rattle.clk_watch.specs.declared.record.SourceRecord.{SourceRecord}
 use Rattle.clk_watch.specs.declared.watched.Watched.{Watched}
 use Rattle.clk_watch.specs.Brackets.{Tries, Brackets}
-use Rattle.clk_watch.specs.Fold.{outcome_of, is_lost, first_of, at_first, left_by, watched_at, attempts_of, last_of, pair_of, after_record, watch_after, IsReadBy, IsVisit, AreVisits}
+use Rattle.clk_watch.specs.Fold.{outcome_of, is_lost, source_at_first, at_first, left_by, watched_at, attempts_of, last_of, pair_of, after_record, watch_after, IsReadBy, IsVisit, AreVisits}
 use Rattle.clk_watch.specs.Visiting.{IsRead, HasFlags, pair_in}
 use Rattle.clk_watch.specs.Watching.{Watching, kept_of, Visits, Checks}
 use Rattle.clk_watch.proofs.Trial.{no_tries}
@@ -74,7 +74,7 @@ visits m cpu adjust s first count reference ws left a b t u w ends outcome tsc c
 
 -- as many sources are kept as there are
 pub sources_all : (m : Plan) (lost : Bool) (attempts : List Attempt) (ws : List Watched) (rs : List SourceRecord) → ws ≡ watch_after attempts (at_first m lost) rs → length ws ≡ length m.source
-sources_all m lost attempts ws rs e = ap length e ∙ length_after attempts (at_first m lost) rs ∙ length-map m.source (first_of lost)
+sources_all m lost attempts ws rs e = ap length e ∙ length_after attempts (at_first m lost) rs ∙ length-map m.source (source_at_first lost)
 
 -- attempts that are appended change nothing
 pub brackets_keep : (m : Plan) (cpu : ℕ) (adjust : ℤ) (s : ℕ) (a b : Listed Attempt) (t u : Time) (made : List Attempt) (first sources : List Watched) (rs : List SourceRecord)

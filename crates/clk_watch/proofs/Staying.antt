@@ -18,7 +18,7 @@ use Rattle.clk_watch.specs.declared.record.SourceRecord.{SourceRecord}
 use Rattle.clk_watch.specs.declared.watched.Pair.{Pair}
 use Rattle.clk_watch.specs.declared.watched.Watched.{Watched}
 use Rattle.clk_watch.specs.Brackets.{reference_ns}
-use Rattle.clk_watch.specs.Fold.{source_ns, margin_of, compared, judged, outcome_of, is_lost, ends_check, first_of, at_first, unmarked, left_of, left_by, watched_at, attempts_of, last_of, pair_of, after_record, watch_after, ratings_of, IsCurrent, IsReadBy, IsVisit, AreVisits}
+use Rattle.clk_watch.specs.Fold.{source_ns, margin_of, compared, judged, outcome_of, is_lost, ends_check, source_at_first, at_first, unmarked, left_of, left_by, watched_at, attempts_of, last_of, pair_of, after_record, watch_after, ratings_of, IsCurrent, IsReadBy, IsVisit, AreVisits}
 use Rattle.clk_watch.specs.Laws.{IsHealthy, HealthyIsNeverDemoted, DemotedStaysOut, LostAtBootStaysOut}
 use Rattle.clk_watch.proofs.Growing.{length_left, length_after}
 use Rattle.clk_watch.proofs.Leaving.{accepted_is, slow_is}
@@ -203,11 +203,11 @@ out_first false rating h = absurd (cc)
 
 pub lost_stays : LostAtBootStaysOut
 lost_stays m attempts records s l there tsc v =
-    let few : length (at_first m true) ≡ length m.source = length-map m.source (first_of true) in
+    let few : length (at_first m true) ≡ length m.source = length-map m.source (source_at_first true) in
     let at : s < length (at_first m true) = omega (arith, few, there) in
     let own = source_plan_at m s in
     let out : IsOut (watched_at (at_first m true) s) =
-    subst IsOut (sym (get_or-map (first_of true) m.source s no_source nothing there)) (out_first own.tsc (count_of own.rating) tsc) in
+    subst IsOut (sym (get_or-map (source_at_first true) m.source s no_source nothing there)) (out_first own.tsc (count_of own.rating) tsc) in
     let stays = out_stays m s attempts (at_first m true) records v at out in
     let all : s < length (watch_after attempts (at_first m true) records) = omega (arith, at, length_after attempts (at_first m true) records) in
     (stays.0, λ place c. never_current m (watch_after attempts (at_first m true) records) s place l all stays.1 c)

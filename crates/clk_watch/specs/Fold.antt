@@ -69,12 +69,12 @@ ends_check (Bad cs_ns wd_ns) = false
 -- ---- what a record leaves of the sources
 
 -- at first nothing is kept, and only a TSC source is unstable, where it was lost at boot
-abbrev pub first_of : Bool → SourcePlan → Watched
-first_of lost s =
+abbrev pub source_at_first : Bool → SourcePlan → Watched
+source_at_first lost s =
     record { kept = None; unstable = lost && s.tsc; rating = if lost && s.tsc then 0 else count_of s.rating }
 
 abbrev pub at_first : Plan → Bool → List Watched
-at_first m lost = map (first_of lost) m.source
+at_first m lost = map (source_at_first lost) m.source
 
 abbrev pub watched_at : List Watched → ℕ → Watched
 watched_at ws s = slice_index_or ws s (record { kept = None; unstable = false; rating = 0 })

@@ -6,4 +6,4 @@ pub mod Visiting
 pub mod Watching
 pub mod Laws
 pub mod Small
-pub mod Kept
+pub mod WatchKept

@@ -22,20 +22,20 @@ abbrev pub kept_of : Watching → List Watched
 kept_of w = watch_after w.attempts.items (at_first w.machine w.tsc_unstable) w.records.items
 
 -- how many checks a machine asks for, none without a watchdog, and how many visits they make at most
-abbrev pub checks_in : Option WatchPart → ℕ
-checks_in None = 0
-checks_in (Some w) = count_of w.checks
+abbrev pub checks_asked : Option WatchPart → ℕ
+checks_asked None = 0
+checks_asked (Some w) = count_of w.checks
 
-abbrev pub visits_of : Plan → ℕ
-visits_of m = checks_in m.watchdog * length m.source
+abbrev pub most_visits : Plan → ℕ
+most_visits m = checks_asked m.watchdog * length m.source
 
 -- a watch that has room for all of them, and for all of their attempts
 abbrev pub started : Plan → Bool → Watching
 started m lost = record {
   machine = m;
   tsc_unstable = lost;
-  attempts = record { items = []; room = visits_of m * (retries_of m + 1) };
-  records = record { items = []; room = visits_of m };
+  attempts = record { items = []; room = most_visits m * (retries_of m + 1) };
+  records = record { items = []; room = most_visits m };
 }
 
 -- a visit to source s, on this CPU: the attempts that were made and appended, and what they call for

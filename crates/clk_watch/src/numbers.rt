@@ -4,7 +4,7 @@ ghost use Rattle.clk_machine.specs.Plan.{count_of};
 ghost use Rattle.clk_machine.specs.Limits.{IsWithinLimits};
 ghost use Rattle.clk_watch.specs.Brackets.{skew_of, retries_of, reference_ns as reference_ns_of};
 ghost use Rattle.clk_watch.specs.Fold.{margin_of, source_ns as source_ns_of};
-ghost use Rattle.clk_watch.specs.Watching.{visits_of};
+ghost use Rattle.clk_watch.specs.Watching.{most_visits};
 ghost use Rattle.clk_watch.specs.Small.{IsSmall};
 
 use clk_machine::Machine;
@@ -44,7 +44,7 @@ pub(crate) fn retries(machine: &Machine) -> u64
 /// How many visits the checks make at most.
 pub(crate) fn visits(machine: &Machine) -> u64
     requires { IsWithinLimits machine.now }
-    ensures visits { result ≡ visits_of machine.now }
+    ensures visits { result ≡ most_visits machine.now }
     ensures few { result ≤ 32768 }
 {
     match machine.watchdog() {

@@ -1,7 +1,9 @@
 //! Worked checks and brackets, with the values that they show.
-ghost use Rattle.std.specs.Prelude.{◌≡◌, ◌^◌, ◌<◌, IfOk, [], ◌∷◌, length, pos};
-ghost use Rattle.clk_machine.specs.Plan.{plan_of};
-ghost use Rattle.clk_machine.specs.Short.{IsWellFormed};
+ghost use Rattle.std.specs.Prelude.{◌≡◌, ◌+◌, ◌*◌, ◌^◌, ◌<◌, ◌≤◌, IfOk, IsTrue, [], ◌∷◌, length, map, pos};
+ghost use Rattle.std.specs.List.{All};
+ghost use Rattle.clk_machine.specs.Plan.{plan_of, cpu_plan, cpu_count};
+ghost use Rattle.clk_machine.specs.Short.{IsShortCpu, IsWellFormed};
+ghost use Rattle.clk_watch.specs.Brackets.{retries_of};
 
 use crate::judge::compare;
 use crate::numbers::retries;
@@ -53,6 +55,28 @@ fn source(alloc: Global) -> Result<List<SourcePart>, AllocError>
     )
 }
 
+/// One CPU of this rate, with no script.
+fn cpu(alloc: Global, khz: i64) -> Result<List<CpuPart>, AllocError>
+    ensures count { IfOk result (λ l. length (map cpu_plan l.items) ≡ 1) }
+    ensures short { IfOk result (λ l. All IsShortCpu (map cpu_plan l.items)) }
+{
+    let script = Script {
+        repeat: 1,
+        words: none(alloc)?,
+    };
+    let jumps = none(alloc)?;
+    one(
+        alloc,
+        CpuPart {
+            khz,
+            offset: 0,
+            socket: 0,
+            jumps,
+            script,
+        },
+    )
+}
+
 /// One CPU, whose TSC is watched by a reference of 1 GHz and is taken to run at 1 GHz too.
 fn parts(
     alloc: Global,
@@ -64,17 +88,9 @@ fn parts(
     requires { length delay.items < 2 ^ 32 }
     ensures { IfOk result (λ p. IsWellFormed (plan_of p)) }
 {
-    let script = Script {
-        repeat: 1,
-        words: none(alloc)?,
-    };
-    let cpu = CpuPart {
-        khz,
-        offset: 0,
-        socket: 0,
-        jumps: none(alloc)?,
-        script,
-    };
+    let cpu = cpu(alloc, khz)?;
+    let reader = none(alloc)?;
+    let source = source(alloc)?;
     Ok(Parts {
         version: 1,
         base: 0,
@@ -90,44 +106,94 @@ fn parts(
             rating: 250,
             margin: 7,
         },
-        cpu: one(alloc, cpu)?,
-        reader: none(alloc)?,
+        cpu,
+        reader,
         delay,
         bringup: None,
         watchdog: Some(watch),
-        source: source(alloc)?,
+        source,
     })
 }
 
-/// Visits the one source of a machine without retries, after a pause.
-fn check_after<R: Abort>(
-    rt: &R,
-    pause: u64,
-    watch: &mut Watch,
-    machine: &Machine,
-    tickets: &TicketTable,
-    time: &mut TimeSeat,
-) -> SourceRecord
-    requires machine { machine.now ≡ watch.old.machine }
-    requires table { time.old.table ≡ tickets.now.table }
-    ensures machine { machine.now ≡ watch.new.machine }
-    ensures table { time.new.table ≡ tickets.now.table }
+/// A machine, the watch of its source, and tickets for both.
+#[derive(Drop)]
+struct Bench {
+    machine: Machine,
+    tickets: TicketTable,
+    time: TimeSeat,
+    watch: Watch,
+    ghost watched: { watch.machine ≡ machine },
+    ghost drawn: { time.table ≡ tickets.table },
+}
+
+impl Bench {
+    fn new(alloc: Global, machine: Machine) -> Result<Bench, AllocError> {
+        let (tickets, time) = TicketTable::new(alloc, 80)?;
+        let watch = Watch::new(alloc, &machine, false)?;
+        Ok(Bench {
+            machine,
+            tickets,
+            time,
+            watch,
+        })
+    }
+
+    /// Whether there is a source to read on a CPU, with room and tickets for all attempts.
+    fn is_ready(&self) -> bool
+        ensures cpu { IsTrue result → 0 < cpu_count self.now.machine }
+        ensures source { IsTrue result → 0 < length self.now.machine.source }
+        ensures room { IsTrue result → retries_of self.now.machine + 1 ≤ self.now.watch.attempts.room }
+        ensures tickets { IsTrue result → 4 * (retries_of self.now.machine + 1) ≤ self.now.time.left }
+        ensures records { IsTrue result → 1 ≤ self.now.watch.records.room }
+    {
+        self.machine.cpus() > 0
+            && self.machine.sources() > 0
+            && retries(&self.machine) < self.watch.attempts().room() as u64
+            && 4 * (retries(&self.machine) + 1) <= self.time.left()
+            && self.watch.records().room() > 0
+    }
+
+    /// A bracket of the source.
+    fn bracket<R: Abort>(&mut self, rt: &R) -> Bracket {
+        assert!(rt; self.is_ready());
+        let counter = CpuCounter {
+            machine: &self.machine,
+            cpu: 0,
+            adjust: 0,
+        };
+        self.watch
+            .bracket(0, counter, &self.tickets, &mut self.time)
+    }
+
+    /// Visits the source after a pause; and the current source then.
+    fn visit<R: Abort>(&mut self, rt: &R, pause: u64) -> (SourceRecord, u32) {
+        assert!(rt; pause > 0 && pause <= self.time.left());
+        self.tickets.draw(&mut self.time, pause);
+        assert!(rt; self.is_ready());
+        let counter = CpuCounter {
+            machine: &self.machine,
+            cpu: 0,
+            adjust: 0,
+        };
+        let record = self
+            .watch
+            .check_source(0, counter, &self.tickets, &mut self.time);
+        (record, self.watch.current())
+    }
+}
+
+/// The watch of a machine that has these parts.
+fn bench_with(
+    alloc: Global,
+    step: i64,
+    khz: i64,
+    delay: List<Delay>,
+    watch: WatchPart,
+) -> Result<Bench, Fail>
+    requires { length delay.items < 2 ^ 32 }
 {
-    assert!(rt; pause > 0 && pause <= time.left());
-    tickets.draw(time, pause);
-    let _limits = machine.tickets_needed();
-    assert_eq!(rt; machine.sources(), 1);
-    assert_eq!(rt; machine.cpus(), 1);
-    assert_eq!(rt; retries(machine), 0);
-    assert!(rt; watch.attempts().room() > 0);
-    assert!(rt; watch.records().room() > 0);
-    assert!(rt; time.left() >= 4);
-    let counter = CpuCounter {
-        machine,
-        cpu: 0,
-        adjust: 0,
-    };
-    watch.check_source(0, counter, tickets, time)
+    let machine = Machine::new(parts(alloc, step, khz, delay, watch)?)?;
+    Ok(Bench::new(alloc, machine)?)
 }
 
 /// A record of source 0 with one attempt, or none.
@@ -142,61 +208,72 @@ fn record(first: u32, count: u32, outcome: Outcome, current: bool, demoted: bool
     }
 }
 
+/// The pause before each check, in tickets, its record, and the current source after it. A stamp of the stable clock
+/// draws two tickets.
+fn drifting_rows() -> [(u64, (SourceRecord, u32)); 4] {
+    let good = Outcome::Good {
+        cs_ns: 154,
+        wd_ns: 140,
+    };
+    let bad = Outcome::Bad {
+        cs_ns: 176,
+        wd_ns: 160,
+    };
+    [
+        (15, (record(0, 1, Outcome::First, false, false), 0)),
+        (10, (record(1, 1, good, true, false), 0)),
+        (12, (record(2, 1, bad, false, true), 1)),
+        (10, (record(3, 0, Outcome::Passed, false, false), 1)),
+    ]
+}
+
+/// Visits the source once for each row.
+fn visit_rows<R: Abort>(rt: &R, bench: &mut Bench) {
+    for (pause, row) in drifting_rows() {
+        assert_eq!(rt; bench.visit(rt, pause), row);
+    }
+}
+
 // The counter runs a tenth faster than it is taken to, so its ns are 14 too many in 140, and then 16 in 160.
 #[test]
 fn drifting_source_is_demoted(rt: HostRuntime) -> Result<(), Fail> {
-    let alloc = rt.alloc();
-    let watch_part = WatchPart {
+    let watch = WatchPart {
         checks: 4,
         pause: 10,
         skew: 100,
         retries: 0,
     };
-    let delays = none(alloc)?;
-    let machine = Machine::new(parts(alloc, 10, 1_100_000, delays, watch_part)?).expect(
-        &rt,
-        "a machine",
-    );
-    let (tickets, mut time) = TicketTable::new(alloc, 80)?;
-    let mut watch = Watch::new(alloc, &machine, false)?;
-    let first = check_after(&rt, 15, &mut watch, &machine, &tickets, &mut time);
-    assert_eq!(rt;
-        (first, watch.current()),
-        (record(0, 1, Outcome::First, false, false), 0)
-    );
-    let second = check_after(&rt, 10, &mut watch, &machine, &tickets, &mut time);
-    let good = Outcome::Good {
-        cs_ns: 154,
-        wd_ns: 140,
-    };
-    assert_eq!(rt;
-        (second, watch.current()),
-        (record(1, 1, good, true, false), 0)
-    );
-    // a stamp of the stable clock draws two tickets
-    let third = check_after(&rt, 12, &mut watch, &machine, &tickets, &mut time);
-    let bad = Outcome::Bad {
-        cs_ns: 176,
-        wd_ns: 160,
-    };
-    assert_eq!(rt;
-        (third, watch.current()),
-        (record(2, 1, bad, false, true), 1)
-    );
-    let fourth = check_after(&rt, 10, &mut watch, &machine, &tickets, &mut time);
-    assert_eq!(rt;
-        (fourth, watch.current()),
-        (record(3, 0, Outcome::Passed, false, false), 1)
-    );
+    let mut bench = bench_with(rt.alloc(), 10, 1_100_000, none(rt.alloc())?, watch)?;
+    visit_rows(&rt, &mut bench);
     let attempt = Attempt {
         ticket: [45, 46, 47, 48],
         value: [450, 506, 470, 480],
     };
-    assert_eq!(rt; watch.attempts().items().last(), Some(&attempt));
-    assert_eq!(rt; watch.records().len(), 4);
+    assert_eq!(rt;
+        (
+            bench.watch.attempts().items().last(),
+            bench.watch.records().len()
+        ),
+        (Some(&attempt), 4)
+    );
     healthy_is_never_demoted();
     demoted_stays_out();
     Ok(())
+}
+
+/// Delays at the third and the fourth ticket of each of three attempts.
+fn delays(alloc: Global, third: i64, fourth: i64) -> Result<List<Delay>, AllocError>
+    ensures { IfOk result (λ l. length l.items < 2 ^ 32) }
+{
+    let delays = vec![in alloc;
+        Delay::new(2, third),
+        Delay::new(3, fourth),
+        Delay::new(6, third),
+        Delay::new(7, fourth),
+        Delay::new(10, third),
+        Delay::new(11, fourth),
+    ]?;
+    Ok(List::from_vec(delays))
 }
 
 /// A bracket that begins at ticket 0, where a ticket is 1 ns, a cycle is 1 ns and these tickets take longer; and how
@@ -204,55 +281,32 @@ fn drifting_source_is_demoted(rt: HostRuntime) -> Result<(), Fail> {
 fn bracket_with<R: Abort>(
     rt: &R,
     alloc: Global,
-    delays: &[(i64, i64)],
-) -> Result<(Bracket, usize), Fail>
-    requires { length delays.now < 100 }
-{
-    let delay: Vec<Delay> = delays.iter().map(|d| Delay::new(d.0, d.1)).collect(alloc)?;
-    let watch_part = WatchPart {
+    third: i64,
+    fourth: i64,
+) -> Result<(Bracket, usize), Fail> {
+    let watch = WatchPart {
         checks: 1,
         pause: 1,
         skew: 100,
         retries: 2,
     };
-    let machine = Machine::new(parts(
-        alloc,
-        1,
-        1_000_000,
-        List::from_vec(delay),
-        watch_part,
-    )?).expect(rt, "a machine");
-    let (tickets, mut time) = TicketTable::new(alloc, 12)?;
-    let mut watch = Watch::new(alloc, &machine, false)?;
-    let _limits = machine.tickets_needed();
-    assert_eq!(rt; machine.sources(), 1);
-    assert_eq!(rt; machine.cpus(), 1);
-    assert_eq!(rt; retries(&machine), 2);
-    assert_eq!(rt; watch.attempts().room(), 3);
-    let counter = CpuCounter {
-        machine: &machine,
-        cpu: 0,
-        adjust: 0,
-    };
-    let outcome = watch.bracket(0, counter, &tickets, &mut time);
-    Ok((outcome, watch.attempts().len()))
+    let mut bench = bench_with(alloc, 1, 1_000_000, delays(alloc, third, fourth)?, watch)?;
+    let bracket = bench.bracket(rt);
+    Ok((bracket, bench.watch.attempts().len()))
 }
 
 // The watchdog shows 0, 101, 151 in each of three attempts; 0, 101, 152; and 0, 100, 900.
 #[test]
 fn bracket_edges(rt: HostRuntime) -> Result<(), Fail> {
-    let alloc = rt.alloc();
-    let slow = [(2, 99), (3, 49), (6, 99), (7, 49), (10, 99), (11, 49)];
-    assert_eq!(rt; bracket_with(&rt, alloc, &slow)?, (Bracket::Slow, 3));
-    assert_eq!(rt;
-        bracket_with(&rt, alloc, &[(2, 99), (3, 50)])?,
-        (Bracket::Skip, 1)
-    );
     let accepted = Bracket::Accepted { cs: 1, wd: 0 };
-    assert_eq!(rt;
-        bracket_with(&rt, alloc, &[(2, 98), (3, 799)])?,
-        (accepted, 1)
-    );
+    for (third, fourth, bracket, attempts) in [
+        (99, 49, Bracket::Slow, 3),
+        (99, 50, Bracket::Skip, 1),
+        (98, 799, accepted, 1),
+    ] {
+        let seen = bracket_with(&rt, rt.alloc(), third, fourth)?;
+        assert_eq!(rt; seen, (bracket, attempts));
+    }
     Ok(())
 }
 

@@ -5,7 +5,7 @@ ghost use Rattle.clk_num.specs.Range.{IsNear};
 ghost use Rattle.clk_machine.specs.Plan.{count_of, cpu_count, source_plan};
 ghost use Rattle.clk_machine.specs.Limits.{IsWithinLimits, IsSource};
 ghost use Rattle.clk_watch.specs.Brackets.{retries_of};
-ghost use Rattle.clk_watch.specs.Fold.{first_of, at_first, is_lost};
+ghost use Rattle.clk_watch.specs.Fold.{source_at_first, at_first, is_lost};
 ghost use Rattle.clk_watch.specs.Watching.{Visits};
 ghost use Rattle.clk_watch.specs.Small.{IsSmallBracket, IsSmallWatched};
 ghost use Rattle.clk_watch.specs.Visiting.{IsRead, HasFlags, pair_in};
@@ -42,7 +42,7 @@ pub(crate) fn first_watched(
 /// What is kept of a source at first.
 fn watched_first(source: &SourcePart, tsc_unstable: bool) -> Watched
     requires { IsSource (source_plan source.now) }
-    ensures { result ≡ first_of tsc_unstable (source_plan source.now) }
+    ensures { result ≡ source_at_first tsc_unstable (source_plan source.now) }
 {
     let unstable = tsc_unstable && source.tsc;
     Watched {

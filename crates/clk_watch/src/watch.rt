@@ -39,7 +39,7 @@ impl Model for Watch {
 
     ghost Value = { Watching };
 
-    ghost use Rattle.clk_watch.specs.Kept.{IsKept};
+    ghost use Rattle.clk_watch.specs.WatchKept.{IsKept};
 
     ghost view = { λ w. record {
       machine = w.machine.value;

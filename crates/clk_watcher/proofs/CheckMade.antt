@@ -18,7 +18,7 @@ use Rattle.clk_trace.specs.Watchdog.{IsPass}
 use Rattle.clk_trace.specs.declared.trace.WatchTrace.{WatchTrace}
 use Rattle.clk_worker.specs.declared.shared.Shared.{Shared}
 use Rattle.clk_watcher.specs.Checking.{ShowsPause, WatchesVisits, WatchesCheck}
-use Rattle.clk_watcher.specs.Keeping.{KeepsVisits, KeepsDemotion}
+use Rattle.clk_watcher.specs.VisitsKept.{KeepsVisits, KeepsDemotion}
 use Rattle.clk_watcher.specs.Calling.{Context, known, HasPartsOf, IsContext, Stands, IsStable, stamps_at, visit_tickets, HasRoomFor, UsesFor, MakesPass, Pauses, EndsCheck}
 use Rattle.clk_watcher.specs.Making.{site_at, has, SeatsServe, HasEnough, KeepsCheck, UsesCheck, MakesAt}
 use Rattle.clk_watcher.specs.declared.parts.WatchParts.{WatchParts}

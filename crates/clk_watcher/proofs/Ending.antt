@@ -5,8 +5,8 @@ use Rattle.std.specs.List.{All, AllZip, flat_map}
 use Rattle.std.proofs.lemmas.List.{length-map}
 use Rattle.std.proofs.lemmas.List.Elements.{All-nil, All-cons}
 use Rattle.clk_base.specs.Walk.{EachFrom}
-use Rattle.clk_watch.specs.Fold.{first_of, at_first, AreVisits}
-use Rattle.clk_watch.specs.Watching.{checks_in}
+use Rattle.clk_watch.specs.Fold.{source_at_first, at_first, AreVisits}
+use Rattle.clk_watch.specs.Watching.{checks_asked}
 use Rattle.clk_trace.specs.Checks.{Visit, Check, listed, visits_of, checks_of}
 use Rattle.clk_trace.specs.Checks.{checks_from, visits_from}
 use Rattle.clk_trace.specs.RightReadings.{NeverFall}
@@ -15,7 +15,7 @@ use Rattle.clk_trace.specs.Watchdog.{IsPass, NamesAll, AreChecks, AreCalledFor}
 use Rattle.clk_trace.specs.declared.trace.WatchTrace.{WatchTrace}
 use Rattle.clk_worker.specs.declared.shared.Shared.{Shared}
 use Rattle.clk_watcher.specs.Checking.{Watches, HasWatched}
-use Rattle.clk_watcher.specs.Keeping.{AreCalled, ends_from, visits_in}
+use Rattle.clk_watcher.specs.VisitsKept.{AreCalled, ends_from, visits_in}
 use Rattle.clk_watcher.specs.Making.{Hand, site_at, has, HasMade, WentOn, RanAll}
 use Rattle.clk_watcher.specs.declared.parts.WatchParts.{WatchParts}
 use Rattle.clk_watcher.proofs.Called.{NoneIn, AllCalled, called_never, called_all}
@@ -37,7 +37,7 @@ module _ (s : Shared) (began ended : WatchParts) (stable lost now : Bool) (n : �
 
   called : AllCalled stable all
   called =
-      let first : length (at_first s.machine w.watch.tsc_unstable) ≡ length s.machine.source = length-map s.machine.source (first_of w.watch.tsc_unstable) in
+      let first : length (at_first s.machine w.watch.tsc_unstable) ≡ length s.machine.source = length-map s.machine.source (source_at_first w.watch.tsc_unstable) in
       called_all s.machine w.watch.attempts.items (at_first s.machine w.watch.tsc_unstable) stable all now h.serves.limits first
       (subst (AreVisits s.machine w.watch.attempts.items (at_first s.machine w.watch.tsc_unstable)) h.kept.records h.kept.visits) h.kept.called
 
@@ -61,7 +61,7 @@ module _ (s : Shared) (began ended : WatchParts) (stable lost now : Bool) (n : �
       ∙ ap (checks_from 0 (map (λ (c : Check). c.ticket) h.checks) (ends_from 0 h.checks) (map (λ (c : Check). c.current) h.checks)) visits_are
       ∙ cut_checks 0 h.checks
 
-  checks_right : n ≡ checks_in s.machine.watchdog → AreChecks s.machine lost w
+  checks_right : n ≡ checks_asked s.machine.watchdog → AreChecks s.machine lost w
   checks_right whole = record {
     thread = h.thread;
     pauses = ap length h.kept.pauses ∙ length-map h.checks (λ (c : Check). c.ticket) ∙ h.count ∙ whole;
@@ -99,7 +99,7 @@ module _ (s : Shared) (began ended : WatchParts) (stable lost now : Bool) (n : �
             (named_there 0 (length w.watch.attempts.items) all h.kept.named);
       }
 
-  pub has_watched : n ≡ checks_in s.machine.watchdog → HasWatched (site_at s began) stable lost (has began) w (has ended)
+  pub has_watched : n ≡ checks_asked s.machine.watchdog → HasWatched (site_at s began) stable lost (has began) w (has ended)
   has_watched whole = record {
     checks = checks_right whole;
     called = called_right;
@@ -109,7 +109,7 @@ module _ (s : Shared) (began ended : WatchParts) (stable lost now : Bool) (n : �
     sized = sized;
   }
 
-pub ran_all : (s : Shared) (v w : Hand) → w.next ≡ checks_in s.machine.watchdog → WentOn s v w → RanAll s v w
+pub ran_all : (s : Shared) (v w : Hand) → w.next ≡ checks_asked s.machine.watchdog → WentOn s v w → RanAll s v w
 ran_all s v w whole went first going =
     let now = went first going in
     record {

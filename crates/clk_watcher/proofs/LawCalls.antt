@@ -11,7 +11,7 @@ use Rattle.clk_watch.specs.declared.attempt.Attempt.{Attempt}
 use Rattle.clk_watch.specs.declared.record.Outcome.TheVariants.{Passed}
 use Rattle.clk_watch.specs.declared.record.SourceRecord.{SourceRecord}
 use Rattle.clk_watch.specs.declared.watched.Watched.{Watched}
-use Rattle.clk_watch.specs.Fold.{is_good, is_lost, at_first, first_of, attempts_of, after_record, IsVisit, AreVisits}
+use Rattle.clk_watch.specs.Fold.{is_good, is_lost, at_first, source_at_first, attempts_of, after_record, IsVisit, AreVisits}
 use Rattle.clk_watch.proofs.Staying.{demoted_stays}
 use Rattle.clk_demote.specs.declared.events.StableStamp.{StableStamp}
 use Rattle.clk_demote.specs.declared.events.Demotion.{Demotion}
@@ -105,5 +105,5 @@ no_stamp_later m lost stable w front visit back limits checks called split demot
     let both = both_true stable visit.made.tsc_demoted (sym (All-head (DemotionIsCalled stable) visit back flags) ∙ demoted) in
     let stamps = all_back (StampIsCalled stable) front (visit ∷ back) (subst (λ xs. All (StampIsCalled stable) xs) split called.stamps) in
     stamps_none stable back (All-tail (StampIsCalled stable) visit back stamps)
-    (none_later m w.watch.attempts.items (at_first m lost) (map (λ v. v.made) front) visit.made (map (λ v. v.made) back) limits (length-map m.source (first_of lost))
+    (none_later m w.watch.attempts.items (at_first m lost) (map (λ v. v.made) front) visit.made (map (λ v. v.made) back) limits (length-map m.source (source_at_first lost))
     (subst (λ rs. AreVisits m w.watch.attempts.items (at_first m lost) rs) made checks.visits) both.1)

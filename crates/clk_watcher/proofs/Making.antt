@@ -19,7 +19,7 @@ use Rattle.clk_watch.specs.declared.record.SourceRecord.{SourceRecord}
 use Rattle.clk_watch.specs.declared.watched.Watched.{Watched}
 use Rattle.clk_watch.specs.Brackets.{retries_of}
 use Rattle.clk_watch.specs.Fold.{at_first, after_record, watch_after, ratings_of, IsCurrent, AreVisits}
-use Rattle.clk_watch.specs.Watching.{Watching, checks_in, visits_of}
+use Rattle.clk_watch.specs.Watching.{Watching, checks_asked, most_visits}
 use Rattle.clk_watch.proofs.Growing.{grow_after}
 use Rattle.clk_demote.specs.declared.events.Demotion.{Demotion}
 use Rattle.clk_demote.specs.Context.{Site, Known}
@@ -29,7 +29,7 @@ use Rattle.clk_trace.specs.Watchdog.{IsPass}
 use Rattle.clk_trace.specs.declared.trace.WatchTrace.{WatchTrace}
 use Rattle.clk_worker.specs.declared.shared.Shared.{Shared}
 use Rattle.clk_watcher.specs.Checking.{WatchesCheck, KeepsLifts}
-use Rattle.clk_watcher.specs.Keeping.{AreCalled, AreNamed, lifts_in, KeepsDemotion, ends_from, visits_in, KeepsChecks}
+use Rattle.clk_watcher.specs.VisitsKept.{AreCalled, AreNamed, lifts_in, KeepsDemotion, ends_from, visits_in, KeepsChecks}
 use Rattle.clk_watcher.specs.Making.{Hand, site_at, has, SeatsServe, IsStable, check_tickets, HasEnough, checks_left, HasMade, IsGoing, Begins, BelongsTo, WentOn, KeepsCheck, UsesCheck, MakesAt, MakesCheck}
 use Rattle.clk_watcher.specs.declared.parts.WatchParts.{WatchParts}
 use Rattle.clk_watcher.proofs.Visits.{one_flat, called_both, named_both, watches_push, same_watch}
@@ -141,14 +141,14 @@ each_vacuous x k (c ∷ cs) h =
 
 -- ---- tickets and room
 
-checks_come : (m : Plan) (n : ℕ) → n < checks_in m.watchdog → checks_left m n ≡ checks_left m (n + 1) + 1
+checks_come : (m : Plan) (n : ℕ) → n < checks_asked m.watchdog → checks_left m n ≡ checks_left m (n + 1) + 1
 checks_come m n low = omega (arith, low)
 
 one_of : (k x : ℕ) → 1 ≤ k → 1 * x ≤ k * x
 one_of k x low = mul-le-mul_right x low
 
 -- there is enough for one check
-pub enough_one : (m : Plan) (n : ℕ) (t : Time) (w : WatchTrace) → n < checks_in m.watchdog → HasEnough m (checks_left m n) t w → HasEnough m 1 t w
+pub enough_one : (m : Plan) (n : ℕ) (t : Time) (w : WatchTrace) → n < checks_asked m.watchdog → HasEnough m (checks_left m n) t w → HasEnough m 1 t w
 enough_one m n t w low h =
     let left = checks_left m n in
     let some : 1 ≤ left = omega (arith, low) in
@@ -176,7 +176,7 @@ spend : (k x have left : ℕ) → (k + 1) * x ≤ have → have ≤ left + x →
 spend k x have left p q = let e = add-mul k 1 x in omega (arith, e, p, q)
 
 -- and for those that are left after it
-enough_after : (m : Plan) (n : ℕ) (t u : Time) (v w : WatchTrace) → n < checks_in m.watchdog → HasEnough m (checks_left m n) t v → UsesCheck m t v u w
+enough_after : (m : Plan) (n : ℕ) (t u : Time) (v w : WatchTrace) → n < checks_asked m.watchdog → HasEnough m (checks_left m n) t v → UsesCheck m t v u w
     → HasEnough m (checks_left m (n + 1)) u w
 enough_after m n t u v w low h uses =
     let now : HasEnough m (checks_left m (n + 1) + 1) t v = subst (λ k. HasEnough m k t v) (checks_come m n low) h in
@@ -294,7 +294,7 @@ module _ (m : Plan) (stable now after : Bool) (n : ℕ) (cs : List Check) (c : C
 
 -- ---- the watcher
 
-pub made_more : (s : Shared) (began : WatchParts) (stable lost : Bool) (n : ℕ) (p q : WatchParts) (now after : Bool) (v w : WatchTrace) → n < checks_in s.machine.watchdog
+pub made_more : (s : Shared) (began : WatchParts) (stable lost : Bool) (n : ℕ) (p q : WatchParts) (now after : Bool) (v w : WatchTrace) → n < checks_asked s.machine.watchdog
     → HasMade s began stable lost n p now v → MakesAt s n p now v q after w → HasMade s began stable lost (n + 1) q after w
 made_more s began stable lost n p q now after v w low h made =
     let site : site_at s p ≡ site_at s began = ap (λ x. record { machine = s.machine; adjusts = s.adjusts.items; sched_offset = x }) h.sched_offset in
@@ -320,7 +320,7 @@ made_more s began stable lost n p q now after v w low h made =
       if_stable = made.if_stable;
     }
 
-pub going_more : (s : Shared) (first v w : Hand) (p q : WatchParts) → v.parts ≡ Some p → w.parts ≡ Some q → w.next ≡ v.next + 1 → v.next < checks_in s.machine.watchdog
+pub going_more : (s : Shared) (first v w : Hand) (p q : WatchParts) → v.parts ≡ Some p → w.parts ≡ Some q → w.next ≡ v.next + 1 → v.next < checks_asked s.machine.watchdog
     → MakesAt s v.next p v.stable v.trace q w.stable w.trace → IsGoing s first v → IsGoing s first w
 going_more s first v w p q seats now next low made going =
     let same : going.parts ≡ p = (let e : Some going.parts ≡ Some p = sym going.parts_is ∙ seats in cc) in
@@ -335,13 +335,13 @@ going_more s first v w p q seats now next low made going =
     }
 
 pub makes_check : (s : Shared) (number : ℕ) (v w : Hand) (p q : WatchParts) → number ≡ v.next → v.parts ≡ Some p → w.parts ≡ Some q → w.next ≡ number + 1
-    → number < checks_in s.machine.watchdog → MakesAt s number p v.stable v.trace q w.stable w.trace → MakesCheck s number v w
+    → number < checks_asked s.machine.watchdog → MakesAt s number p v.stable v.trace q w.stable w.trace → MakesCheck s number v w
 makes_check s number v w p q at seats now next low made = record {
   next = next;
   check = made.check;
   kept = made.kept;
   went = λ first going.
-      going_more s first v w p q seats now (next ∙ ap (λ i. i + 1) at) (subst (λ i. i < checks_in s.machine.watchdog) at low)
+      going_more s first v w p q seats now (next ∙ ap (λ i. i + 1) at) (subst (λ i. i < checks_asked s.machine.watchdog) at low)
       (subst (λ i. MakesAt s i p v.stable v.trace q w.stable w.trace) at made) going;
 }
 
@@ -372,21 +372,21 @@ stands_on s h p is b =
 
 -- ---- how it begins
 
-watch_checks : (m : Plan) (w : Option WatchPart) → IfThere IsWatch w → checks_in w ≤ 4096
+watch_checks : (m : Plan) (w : Option WatchPart) → IfThere IsWatch w → checks_asked w ≤ 4096
 watch_checks m None h = omega arith
 watch_checks m (Some w) h = h.checks.2
 
-few_visits : (m : Plan) → IsWithinLimits m → visits_of m ≤ 2 ^ 16
+few_visits : (m : Plan) → IsWithinLimits m → most_visits m ≤ 2 ^ 16
 few_visits m l =
     let checks = watch_checks m m.watchdog l.ranges.watchdog in
     let sources = l.ranges.sources in
-    let most : checks_in m.watchdog * length m.source ≤ 4096 * 8 = mul-le-mul checks sources in
+    let most : checks_asked m.watchdog * length m.source ≤ 4096 * 8 = mul-le-mul checks sources in
     omega (arith, most)
 
-all_tickets : (m : Plan) → checks_in m.watchdog * check_tickets m ≡ watch_tickets m m.watchdog
+all_tickets : (m : Plan) → checks_asked m.watchdog * check_tickets m ≡ watch_tickets m m.watchdog
 all_tickets m = by m.watchdog refl
   where
-    by : (w : Option WatchPart) → m.watchdog ≡ w → checks_in m.watchdog * check_tickets m ≡ watch_tickets m m.watchdog
+    by : (w : Option WatchPart) → m.watchdog ≡ w → checks_asked m.watchdog * check_tickets m ≡ watch_tickets m m.watchdog
     by None e = rw e (let z : 0 * (0 + length m.source * ((0 + 1) * 4) + 2) ≡ 0 = omega arith in z)
     by (Some w) e = rw e refl
 
@@ -397,9 +397,9 @@ begins p w stable s may =
     let lost = w.watch.tsc_unstable in
     let attempts : w.watch.attempts.items ≡ [] = ap (λ (x : Watching). x.attempts.items) may.watch in
     let records : w.watch.records.items ≡ [] = ap (λ (x : Watching). x.records.items) may.watch in
-    let left : checks_left m 0 ≡ checks_in m.watchdog = omega arith in
-    let attempts_room : w.watch.attempts.room ≡ visits_of m * (retries_of m + 1) = ap (λ (x : Watching). x.attempts.room) may.watch in
-    let records_room : w.watch.records.room ≡ visits_of m = ap (λ (x : Watching). x.records.room) may.watch in
+    let left : checks_left m 0 ≡ checks_asked m.watchdog = omega arith in
+    let attempts_room : w.watch.attempts.room ≡ most_visits m * (retries_of m + 1) = ap (λ (x : Watching). x.attempts.room) may.watch in
+    let records_room : w.watch.records.room ≡ most_visits m = ap (λ (x : Watching). x.records.room) may.watch in
     let tickets = may.tickets in
     let stamps = may.stamps in
     let pauses = may.pauses in
@@ -451,7 +451,7 @@ begins p w stable s may =
         };
         enough = subst (λ k. HasEnough m k p.time w) (sym left) (record {
           tickets = rw (all_tickets m) tickets;
-          attempts = rw attempts_room (let e = mul_assoc (checks_in m.watchdog) (length m.source) (retries_of m + 1) in omega (arith, e));
+          attempts = rw attempts_room (let e = mul_assoc (checks_asked m.watchdog) (length m.source) (retries_of m + 1) in omega (arith, e));
           records = rw records_room (omega arith);
           stamps = stamps;
           pauses = pauses;

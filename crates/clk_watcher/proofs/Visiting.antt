@@ -22,7 +22,7 @@ use Rattle.clk_trace.specs.Checks.{Visit, listed}
 use Rattle.clk_trace.specs.Watchdog.{IsPass}
 use Rattle.clk_trace.specs.declared.trace.WatchTrace.{WatchTrace}
 use Rattle.clk_watcher.specs.Checking.{WatchesVisits}
-use Rattle.clk_watcher.specs.Keeping.{KeepsVisits, KeepsDemotion, lifts_in}
+use Rattle.clk_watcher.specs.VisitsKept.{KeepsVisits, KeepsDemotion, lifts_in}
 use Rattle.clk_watcher.specs.Calling.{Context, known, Stands, IsStable, stamps_at, visit_tickets, HasRoomFor, UsesFor, Follows, MakesVisits, MakesVisit, MakesPass}
 use Rattle.clk_watcher.proofs.Visits.{one_flat, kept_both, kept_none, demotes_both, demotes_none, rest_both, rest_none, watches_both, same_visits}
 

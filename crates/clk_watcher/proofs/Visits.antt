@@ -13,7 +13,7 @@ use Rattle.clk_demote.specs.Context.{Site, Known}
 use Rattle.clk_trace.specs.Checks.{Visit, Check, listed}
 use Rattle.clk_trace.specs.declared.trace.WatchTrace.{WatchTrace}
 use Rattle.clk_watcher.specs.Checking.{StampsAt, DemotesAt, WatchesVisit, WatchesVisits, WatchesCheck, Watches}
-use Rattle.clk_watcher.specs.Keeping.{AreCalled, AreNamed, KeepsVisits, lifts_in, demoted_after, KeepsDemotion, KeepsRest}
+use Rattle.clk_watcher.specs.VisitsKept.{AreCalled, AreNamed, KeepsVisits, lifts_in, demoted_after, KeepsDemotion, KeepsRest}
 
 -- ---- lists
 

@@ -23,7 +23,7 @@ use Rattle.clk_trace.specs.Watchdog.{IsPass}
 use Rattle.clk_trace.specs.declared.trace.WatchTrace.{WatchTrace}
 use Rattle.clk_worker.specs.declared.shared.Shared.{Shared}
 use Rattle.clk_watcher.specs.Checking.{StampsAt, DemotesAt, WatchesVisits}
-use Rattle.clk_watcher.specs.Keeping.{KeepsVisits, KeepsDemotion, KeepsRest, lifts_in}
+use Rattle.clk_watcher.specs.VisitsKept.{KeepsVisits, KeepsDemotion, KeepsRest, lifts_in}
 use Rattle.clk_watcher.specs.declared.parts.WatchParts.{WatchParts}
 
 -- ---- a context

@@ -1,5 +1,5 @@
 pub mod Checking
-pub mod Keeping
+pub mod VisitsKept
 pub mod Calling
 pub mod Making
 pub mod Shown

@@ -12,7 +12,7 @@ use Rattle.clk_machine.specs.Records.{above_base}
 use Rattle.clk_machine.specs.Tickets.{watch_tickets}
 use Rattle.clk_local.specs.Context.{BeginsAtBase}
 use Rattle.clk_watch.specs.Brackets.{retries_of}
-use Rattle.clk_watch.specs.Watching.{checks_in, started}
+use Rattle.clk_watch.specs.Watching.{checks_asked, started}
 use Rattle.clk_watch.specs.Fold.{at_first, ratings_of, IsCurrent, AreVisits}
 use Rattle.clk_watch.specs.Watching.{kept_of}
 use Rattle.clk_demote.specs.Context.{Site, Known, IsUnlifted}
@@ -22,7 +22,7 @@ use Rattle.clk_trace.specs.Watchdog.{IsPass}
 use Rattle.clk_trace.specs.declared.trace.WatchTrace.{WatchTrace}
 use Rattle.clk_worker.specs.declared.shared.Shared.{Shared}
 use Rattle.clk_watcher.specs.Checking.{WatchesCheck, Watches, KeepsLifts, HasWatched}
-use Rattle.clk_watcher.specs.Keeping.{KeepsVisits, KeepsDemotion, KeepsChecks}
+use Rattle.clk_watcher.specs.VisitsKept.{KeepsVisits, KeepsDemotion, KeepsChecks}
 use Rattle.clk_watcher.specs.declared.parts.WatchParts.{WatchParts}
 
 -- what contracts see of a watcher: its parts, the number of its next check, whether the clock is stable by what it did,
@@ -89,7 +89,7 @@ pub record HasEnough (m : Plan) (checks : ℕ) (t : Time) (w : WatchTrace) : Typ
 
 -- how many checks are left after the first n
 abbrev pub checks_left : Plan → ℕ → ℕ
-checks_left m n = checks_in m.watchdog - n
+checks_left m n = checks_asked m.watchdog - n
 
 -- nothing is kept yet
 pub record IsEmpty (w : WatchTrace) : Type 0 where
@@ -115,17 +115,17 @@ pub record MayBegin (s : Shared) (p : WatchParts) (w : WatchTrace) (stable : Boo
   pub watch : w.watch ≡ started s.machine w.watch.tsc_unstable
   pub thread : w.thread ≡ length (threads_of s.machine)
   pub empty : IsEmpty w
-  pub pauses : checks_in s.machine.watchdog ≤ w.pauses.room
-  pub ends : checks_in s.machine.watchdog ≤ w.last_record.room
-  pub currents : checks_in s.machine.watchdog ≤ w.currents.room
-  pub stamps : checks_in s.machine.watchdog ≤ w.stamps.room
+  pub pauses : checks_asked s.machine.watchdog ≤ w.pauses.room
+  pub ends : checks_asked s.machine.watchdog ≤ w.last_record.room
+  pub currents : checks_asked s.machine.watchdog ≤ w.currents.room
+  pub stamps : checks_asked s.machine.watchdog ≤ w.stamps.room
   pub if_stable : stable ≡ true → IsStable s p w
 
 -- ---- what it made
 
 -- the first n checks, by parts that it began with
 pub record HasMade (s : Shared) (began : WatchParts) (stable lost : Bool) (n : ℕ) (p : WatchParts) (now : Bool) (w : WatchTrace) : Type 0 where
-  pub within : n ≤ checks_in s.machine.watchdog
+  pub within : n ≤ checks_asked s.machine.watchdog
   pub checks : List Check
   pub count : length checks ≡ n
   pub kept : KeepsChecks s.machine stable checks now w

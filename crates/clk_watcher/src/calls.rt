@@ -3,7 +3,7 @@ ghost use Rattle.std.specs.Prelude.{◌≡◌, ◌+◌, ◌<◌, ◌≤◌, [], 
 ghost use Rattle.clk_machine.specs.Plan.{cpu_count};
 ghost use Rattle.clk_machine.specs.Time.{source_plan_at};
 ghost use Rattle.clk_watch.specs.Fold.{ends_check as ends_check_of};
-ghost use Rattle.clk_watch.specs.Watching.{checks_in};
+ghost use Rattle.clk_watch.specs.Watching.{checks_asked};
 ghost use Rattle.clk_trace.specs.Checks.{pause_of};
 ghost use Rattle.clk_demote.specs.Context.{IsSeated};
 ghost use Rattle.clk_watcher.specs.Calling.{Stands, IsStable, HasRoomFor, Follows, Stamps, Demotes, MakesVisit, MakesPass, Pauses, EndsCheck};
@@ -27,7 +27,7 @@ pub(crate) fn make_at(
     stable: &mut bool,
     trace: &mut WatchTrace,
 ) -> WatchParts
-    requires within { number < checks_in shared.now.machine.watchdog }
+    requires within { number < checks_asked shared.now.machine.watchdog }
     requires serves { SeatsServe shared.now parts trace.old }
     requires if_stable { stable.old ≡ true → IsStableAt shared.now parts trace.old }
     requires enough { HasEnough shared.now.machine 1 parts.time trace.old }
@@ -43,7 +43,7 @@ pub(crate) fn make_at(
 
 // The pause of a check.
 fn pause(ctx: &mut WatchCtx<'_, Latch>, trace: &mut WatchTrace)
-    requires some { 0 < checks_in ctx.old.machine.now.watchdog }
+    requires some { 0 < checks_asked ctx.old.machine.now.watchdog }
     requires stands { Stands ctx.old trace.old }
     requires tickets { pause_of ctx.old.machine.now ≤ ctx.old.time.left }
     requires room { 1 ≤ trace.old.pauses.room }

@@ -2,7 +2,7 @@
 ghost use Rattle.std.specs.Prelude.{◌≡◌, ◌<◌, ◌≤◌, pos};
 ghost use Rattle.clk_machine.specs.Plan.{count_of};
 ghost use Rattle.clk_machine.specs.Limits.{IsWithinLimits};
-ghost use Rattle.clk_watch.specs.Watching.{checks_in};
+ghost use Rattle.clk_watch.specs.Watching.{checks_asked};
 ghost use Rattle.clk_trace.specs.Checks.{pause_of};
 
 use clk_machine::Machine;
@@ -18,7 +18,7 @@ fn count(value: &i64) -> u64
 /// How many checks the watchdog of a machine makes, at most 4,096; none where it has no table of one.
 pub(crate) fn checks(machine: &Machine) -> u32
     requires { IsWithinLimits machine.now }
-    ensures checks { result ≡ checks_in machine.now.watchdog }
+    ensures checks { result ≡ checks_asked machine.now.watchdog }
     ensures few { result ≤ 4096 }
 {
     match machine.watchdog() {
@@ -30,7 +30,7 @@ pub(crate) fn checks(machine: &Machine) -> u32
 /// The tickets of the pause before a check.
 pub(crate) fn pause(machine: &Machine) -> u64
     requires limits { IsWithinLimits machine.now }
-    requires some { 0 < checks_in machine.now.watchdog }
+    requires some { 0 < checks_asked machine.now.watchdog }
     ensures pause { result ≡ pause_of machine.now }
     ensures least { 1 ≤ result }
 {

@@ -1,6 +1,6 @@
 //! The watchdog of a run.
 ghost use Rattle.std.specs.Prelude.{◌≡◌, ◌+◌, ◌<◌, Some};
-ghost use Rattle.clk_watch.specs.Watching.{checks_in};
+ghost use Rattle.clk_watch.specs.Watching.{checks_asked};
 ghost use Rattle.clk_watcher.specs.Making.{Begins, BelongsTo, WentOn, RanAll, MakesCheck};
 
 use crate::calls::make_at;
@@ -72,7 +72,7 @@ impl Watcher {
     pub fn check<G: Gate>(&mut self, shared: &Shared, number: u32, gate: &G)
         requires shared { BelongsTo shared.now self.old }
         requires next { number ≡ self.old.next }
-        requires within { number < checks_in shared.now.machine.watchdog }
+        requires within { number < checks_asked shared.now.machine.watchdog }
         ensures { MakesCheck shared.now number self.old self.new }
     {
         gate.pass(self.trace.thread, number, 0);
@@ -82,7 +82,7 @@ impl Watcher {
     /// Makes all checks that are left, each as `check` does.
     pub fn run<G: Gate>(&mut self, shared: &Shared, gate: &G)
         requires shared { BelongsTo shared.now self.old }
-        ensures next { self.new.next ≡ checks_in shared.now.machine.watchdog }
+        ensures next { self.new.next ≡ checks_asked shared.now.machine.watchdog }
         ensures went { WentOn shared.now self.old self.new }
         ensures watched { RanAll shared.now self.old self.new }
     {
@@ -103,7 +103,7 @@ impl Watcher {
     fn make(&mut self, shared: &Shared, number: u32)
         requires shared { BelongsTo shared.now self.old }
         requires next { number ≡ self.old.next }
-        requires within { number < checks_in shared.now.machine.watchdog }
+        requires within { number < checks_asked shared.now.machine.watchdog }
         ensures { MakesCheck shared.now number self.old self.new }
     {
         let parts = self.parts.take().unwrap();

@@ -35,10 +35,10 @@ use Rattle.clk_words.specs.Rights.{has_number}
 use Rattle.clk_words.specs.Knowing.{IsSoundAs, AreSound, HasLoaded, IsTrusted}
 use Rattle.clk_words.specs.Told.{Looks, Makes, Raises, Loads, Finds, FindsGtod, FindsRaw, FindsOffset, Lifts, stamped, LoadedClock, Missed, Hit, Exchanged, Raised, LoadedGtod, LoadedRaw, LoadedOffset, offset_put, pair_cloned, Lifted}
 use Rattle.clk_words.specs.Held.{Place, Held, place_of}
-use Rattle.clk_words.specs.Seated.{IsSeated, AreWords}
+use Rattle.clk_words.specs.WordSeats.{IsSeated, AreWords}
 use Rattle.clk_words.specs.Calls.{Loses, step_of}
 use Rattle.clk_words.proofs.Replay.{clock_near, had_here, had_more}
-use Rattle.clk_words.proofs.Keeping.{MayTry, MayRaise, raise_range}
+use Rattle.clk_words.proofs.WordsSteps.{MayTry, MayRaise, raise_range}
 
 -- a seat that belongs to the words is of their table and began with their key
 pub record Belongs (table : TableId) (start : Start) (own : TableId) (key : Start) : Type 0 where

@@ -16,7 +16,7 @@ use Rattle.clk_words.specs.Histories.{opens_at, value_after, Follows, IsGlobalHi
 use Rattle.clk_words.specs.Heights.{IsClockWord}
 use Rattle.clk_words.specs.Views.{own_lists, giver_view, given_view, joint_view, spent_view, longer, joint_made}
 use Rattle.clk_words.specs.Knowing.{IsGood}
-use Rattle.clk_words.specs.Kept.{IsOwn, Fits, HistoryPart}
+use Rattle.clk_words.specs.WordsRule.{IsOwn, Fits, HistoryPart}
 use Rattle.clk_words.proofs.Fronts.{begins_self, begins_more, begins_through, begins_shorter}
 use Rattle.clk_words.proofs.Replay.{value_here, value_else, range_more, legal_more, legal_front, by_append, by_here, by_else, by_fresh, by_between}
 use Rattle.clk_words.proofs.Places.{placed, grown, times, times_here, times_append, times_none, none_times}

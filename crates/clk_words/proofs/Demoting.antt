@@ -7,10 +7,9 @@ use Rattle.clk_words.specs.declared.view.View.{View}
 use Rattle.clk_words.specs.declared.view.Part.{Part}
 use Rattle.clk_words.specs.Histories.{is_lift, has_lift}
 use Rattle.clk_words.specs.Parts.{part_of}
-use Rattle.clk_words.specs.Knowing.{MayDemote}
 use Rattle.clk_words.specs.Told.{pair_cloned, Lifts}
 use Rattle.clk_words.proofs.Registers.{put_here, put_else}
-use Rattle.clk_words.proofs.Keeping.{lift_more}
+use Rattle.clk_words.proofs.WordsSteps.{lift_more}
 
 -- the register was stored
 abbrev pub HasStored : View → ℕ → Type 0

@@ -22,8 +22,8 @@ use Rattle.clk_words.specs.Views.{own_lists}
 use Rattle.clk_words.specs.Knowing.{HasAll}
 use Rattle.clk_words.specs.Calls.{IsComplete}
 use Rattle.clk_words.specs.Held.{Ended}
-use Rattle.clk_words.specs.Seated.{AreEnded}
-use Rattle.clk_words.specs.Kept.{IsOwn, Fits, Kept}
+use Rattle.clk_words.specs.WordSeats.{AreEnded}
+use Rattle.clk_words.specs.WordsRule.{IsOwn, Fits, Kept}
 use Rattle.clk_words.proofs.Fronts.{begins_none}
 use Rattle.clk_words.proofs.Owning.{or_cases}
 use Rattle.clk_words.proofs.Replay.{by_append, by_fresh, is_chain}

@@ -7,7 +7,8 @@ pub mod Owning
 pub mod Pairs
 pub mod Modes
 pub mod Quiet
-pub mod Keeping
+pub mod Changing
+pub mod WordsSteps
 pub mod Stamping
 pub mod Looking
 pub mod Watching

@@ -10,8 +10,9 @@ use Rattle.clk_words.specs.declared.view.View.{View}
 use Rattle.clk_words.specs.Histories.{opens_at}
 use Rattle.clk_words.specs.Bounds.{IsOffset}
 use Rattle.clk_words.specs.Views.{is_percpu, mode_of}
-use Rattle.clk_words.specs.Kept.{Kept}
+use Rattle.clk_words.specs.WordsRule.{Kept}
 use Rattle.clk_words.specs.Told.{looked, offset_seen, LookedMode, LoadedOffset}
+use Rattle.clk_words.proofs.Changing.{changed}
 use Rattle.clk_words.proofs.Places.{set_same}
 use Rattle.clk_words.proofs.Clocks.{clocks_view}
 use Rattle.clk_words.proofs.Pairs.{pairs_view}
@@ -41,27 +42,14 @@ looks_mode start slots id me live s kept homes at small =
       keeps,
       tt,
       subst (λ ws. Kept start (record { words = ws; homes = s.homes; views = set s.views id w })) (sym (set_same s.words i))
-          (record {
-            history = kept.history;
-            made = kept.made;
-            holder = kept.holder;
-            splitter = kept.splitter;
-            chain = kept.chain;
-            writer = kept.writer;
-            percpu = kept.percpu;
-            offset = kept.offset;
-            watcher = kept.watcher;
-            wide = kept.wide;
-            lifts_first = kept.lifts_first;
-            lifted = kept.lifted;
-            whole = λ stable. whole_view kept.history s.views id w (kept.whole stable) (kept.whole stable id v at);
-            quiet = λ stable. let rest = kept.quiet stable in quiet_view kept.chain s.views id w rest (rest.unknown id v at) (rest.cloned id v at);
-            clocks = clocks_view start kept.history kept.made kept.holder kept.splitter s.words s.views id w kept.clocks
-                (λ alive. record { start_is = fits.start_is; front = fits.front; lists = fits.lists; single = fits.single; splits = fits.splits; told_is = fits.told_is });
-            pairs = pairs_view start.cpus (opens_at start) kept.chain kept.writer s.words s.views id v w kept.pairs at refl;
-            modes = modes_fit start kept.percpu kept.offset kept.watcher s.words s.views id w kept.modes
-                (fits_looked kept.percpu kept.offset kept.watcher id v.modes mode is mine);
-          }),
+          (changed start s _ kept.chain kept.offset kept refl
+          (λ stable. whole_view kept.history s.views id w (kept.whole stable) (kept.whole stable id v at))
+          (λ stable. let rest = kept.quiet stable in quiet_view kept.chain s.views id w rest (rest.unknown id v at) (rest.cloned id v at))
+          (clocks_view start kept.history kept.made kept.holder kept.splitter s.words s.views id w kept.clocks
+          (λ alive. record { start_is = fits.start_is; front = fits.front; lists = fits.lists; single = fits.single; splits = fits.splits; told_is = fits.told_is }))
+          (pairs_view start.cpus (opens_at start) kept.chain kept.writer s.words s.views id v w kept.pairs at refl)
+          (modes_fit start kept.percpu kept.offset kept.watcher s.words s.views id w kept.modes
+          (fits_looked kept.percpu kept.offset kept.watcher id v.modes mode is mine))),
       record {
         finds = record {
           view_is = refl;
@@ -90,27 +78,14 @@ finds_offset start slots id me live found s kept homes at small =
       keeps,
       tt,
       subst (λ ws. Kept start (record { words = ws; homes = s.homes; views = set s.views id w })) (sym (set_same s.words i))
-          (record {
-            history = kept.history;
-            made = kept.made;
-            holder = kept.holder;
-            splitter = kept.splitter;
-            chain = kept.chain;
-            writer = kept.writer;
-            percpu = kept.percpu;
-            offset = kept.offset;
-            watcher = kept.watcher;
-            wide = kept.wide;
-            lifts_first = kept.lifts_first;
-            lifted = kept.lifted;
-            whole = λ stable. absurd (true≢false (sym percpu ∙ stable));
-            quiet = λ stable. absurd (true≢false (sym percpu ∙ stable));
-            clocks = clocks_view start kept.history kept.made kept.holder kept.splitter s.words s.views id w kept.clocks
-                (λ alive. record { start_is = fits.start_is; front = fits.front; lists = fits.lists; single = fits.single; splits = fits.splits; told_is = fits.told_is });
-            pairs = pairs_view start.cpus (opens_at start) kept.chain kept.writer s.words s.views id v w kept.pairs at refl;
-            modes = modes_fit start kept.percpu kept.offset kept.watcher s.words s.views id w kept.modes
-                (fits_offset kept.percpu kept.offset kept.watcher id v.modes percpu mine);
-          }),
+          (changed start s _ kept.chain kept.offset kept refl
+          (λ stable. absurd (true≢false (sym percpu ∙ stable)))
+          (λ stable. absurd (true≢false (sym percpu ∙ stable)))
+          (clocks_view start kept.history kept.made kept.holder kept.splitter s.words s.views id w kept.clocks
+          (λ alive. record { start_is = fits.start_is; front = fits.front; lists = fits.lists; single = fits.single; splits = fits.splits; told_is = fits.told_is }))
+          (pairs_view start.cpus (opens_at start) kept.chain kept.writer s.words s.views id v w kept.pairs at refl)
+          (modes_fit start kept.percpu kept.offset kept.watcher s.words s.views id w kept.modes
+          (fits_offset kept.percpu kept.offset kept.watcher id v.modes percpu mine))),
       record {
         value = x;
         word_is = kept.modes.offset_word;

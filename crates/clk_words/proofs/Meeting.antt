@@ -1,5 +1,5 @@
 -- What splits and joins say, over plain data.
-use Rattle.std.proofs.Common.{◌≡◌, ℕ, ◌+◌, ◌<◌, ◌≤◌, ◌⊎◌, ℤ, Option, None, Bool, true, false, not, cond, ◌||◌, ◌&&◌, List, [], ◌∷◌, ◌++◌, nat_eq, refl, sym, ap, ◌∙◌, subst, inl, inr, ⊎_elim, arith}
+use Rattle.std.proofs.Common.{◌≡◌, ℕ, ◌+◌, ◌≤◌, ◌⊎◌, ℤ, Option, None, Bool, true, false, not, cond, ◌||◌, ◌&&◌, List, [], ◌∷◌, ◌++◌, nat_eq, refl, sym, ap, ◌∙◌, subst, inl, inr, ⊎_elim, arith}
 use Rattle.std.proofs.lemmas.List.Elements.{All-nil, All-head, All-tail}
 use Rattle.clk_words.specs.declared.opening.Start.{Start}
 use Rattle.clk_words.specs.declared.step.Step.{Step}
@@ -9,13 +9,13 @@ use Rattle.clk_words.specs.declared.view.Part.{Part}
 use Rattle.clk_words.specs.declared.kind.SeatKind.{SeatKind}
 use Rattle.clk_words.specs.declared.kind.SeatKind.TheVariants.{Owner, Reader, Watch}
 use Rattle.clk_words.specs.Fronts.{Begins}
-use Rattle.clk_words.specs.Kinds.{cpu_of, is_watch, same_kind}
+use Rattle.clk_words.specs.Kinds.{is_watch, same_kind}
 use Rattle.clk_words.specs.Parts.{part_of, PartBegins}
 use Rattle.clk_words.specs.Rights.{has_number, has_kind}
-use Rattle.clk_words.specs.Views.{giver_view, given_view, joint_view, longer, joint_made, first_view}
+use Rattle.clk_words.specs.Views.{giver_view, joint_view, longer, joint_made, first_view}
 use Rattle.clk_words.specs.Knowing.{IsSoundAs, AreSound, MayGive}
 use Rattle.clk_words.specs.Told.{Settles}
-use Rattle.clk_words.specs.Seated.{IsSeated}
+use Rattle.clk_words.specs.WordSeats.{IsSeated}
 use Rattle.clk_words.specs.Calls.{Joins}
 use Rattle.clk_words.proofs.Owning.{has_left, has_right, owner_left, owns_left, watch_left, owners_owned}
 use Rattle.clk_words.proofs.Calling.{loads_more}

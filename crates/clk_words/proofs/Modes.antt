@@ -14,7 +14,7 @@ use Rattle.clk_words.specs.Parts.{either_zero}
 use Rattle.clk_words.specs.Views.{is_percpu, giver_view, given_view, joint_view, spent_view, settled_modes}
 use Rattle.clk_words.specs.Histories.{opens_at}
 use Rattle.clk_words.specs.Bounds.{IsOffset}
-use Rattle.clk_words.specs.Kept.{FitsModes, ModePart}
+use Rattle.clk_words.specs.WordsRule.{FitsModes, ModePart}
 use Rattle.clk_words.specs.Told.{looked_modes, seen_modes, put_modes, cloned_modes, published_modes}
 use Rattle.clk_words.proofs.Owning.{or_cases}
 use Rattle.clk_words.proofs.Places.{placed, grown}

@@ -16,7 +16,7 @@ use Rattle.clk_words.specs.Bounds.{IsGtod, IsRaw}
 use Rattle.clk_words.specs.Parts.{gtod_of, raw_of, part_of, put_part, PartBegins, joint_part, joint_parts}
 use Rattle.clk_words.specs.Rights.{has_number, owns_without, owned_by}
 use Rattle.clk_words.specs.Views.{giver_view, given_view, joint_view, joint_pairs, spent_view}
-use Rattle.clk_words.specs.Kept.{Chain, last_of, Knows, FitsPairs, PairPart}
+use Rattle.clk_words.specs.WordsRule.{Chain, last_of, Knows, FitsPairs, PairPart}
 use Rattle.clk_words.proofs.Fronts.{begins_self, begins_more}
 use Rattle.clk_words.proofs.Registers.{put_here, put_else, last_more, joint_at, part_through, knows_joint, kept_whole, begins_joint, cpu_of_gtod, cpu_of_raw}
 use Rattle.clk_words.proofs.Owning.{has_append, has_filtered, has_one}

@@ -11,7 +11,7 @@ use Rattle.clk_words.specs.Fronts.{Begins}
 use Rattle.clk_words.specs.Parts.{part_of, either_zero}
 use Rattle.clk_words.specs.Rights.{has_number}
 use Rattle.clk_words.specs.Views.{giver_view, given_view, joint_view, spent_view, longer}
-use Rattle.clk_words.specs.Kept.{Chain, Knows, HasSeenAll, IsQuiet}
+use Rattle.clk_words.specs.WordsRule.{Chain, Knows, HasSeenAll, IsQuiet}
 use Rattle.clk_words.proofs.Fronts.{begins_whole, begins_length}
 use Rattle.clk_words.proofs.Owning.{or_cases}
 use Rattle.clk_words.proofs.Clocks.{longer_case}

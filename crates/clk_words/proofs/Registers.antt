@@ -7,7 +7,7 @@ use native.Mathlib.Decide.{ℕ_discrete, dec_le}
 use Rattle.clk_words.specs.declared.view.Part.{Part}
 use Rattle.clk_words.specs.Fronts.{Begins}
 use Rattle.clk_words.specs.Parts.{nothing, part_of, put_part, last_from, PartBegins, either_zero, kept_after, joint_part, parts_below, owns_register, joint_parts}
-use Rattle.clk_words.specs.Kept.{Chain, Knows}
+use Rattle.clk_words.specs.WordsRule.{Chain, Knows}
 use Rattle.clk_words.proofs.Fronts.{begins_self, begins_shorter}
 
 pub put_here : (ps : List Part) (r : ℕ) (p : Part) → part_of (put_part ps r p) r ≡ p

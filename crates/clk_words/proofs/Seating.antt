@@ -12,8 +12,9 @@ use Rattle.clk_words.specs.Fronts.{Begins}
 use Rattle.clk_words.specs.Kinds.{is_watch}
 use Rattle.clk_words.specs.Histories.{opens_at}
 use Rattle.clk_words.specs.Views.{giver_view, given_view, joint_view, spent_view, settled}
-use Rattle.clk_words.specs.Kept.{Fits, Kept}
+use Rattle.clk_words.specs.WordsRule.{Fits, Kept}
 use Rattle.clk_words.specs.Told.{Met}
+use Rattle.clk_words.proofs.Changing.{changed}
 use Rattle.clk_words.proofs.Places.{set_same, at_other}
 use Rattle.clk_words.proofs.Clocks.{fits_good, clocks_view, clocks_split, clocks_join}
 use Rattle.clk_words.proofs.Pairs.{HasGift, pairs_split, pairs_join, pairs_told}
@@ -90,25 +91,12 @@ meets start slots id i me live s kept homes at small =
       keeps,
       tt,
       subst (λ ws. Kept start (record { words = ws; homes = s.homes; views = set s.views id w })) (sym (set_same s.words i))
-          (record {
-            history = kept.history;
-            made = kept.made;
-            holder = kept.holder;
-            splitter = kept.splitter;
-            chain = kept.chain;
-            writer = kept.writer;
-            percpu = kept.percpu;
-            offset = kept.offset;
-            watcher = kept.watcher;
-            wide = kept.wide;
-            lifts_first = kept.lifts_first;
-            lifted = kept.lifted;
-            whole = λ stable. whole_view kept.history s.views id w (kept.whole stable) (kept.whole stable id v at);
-            quiet = λ stable. let rest = kept.quiet stable in quiet_view kept.chain s.views id w rest (rest.unknown id v at) (rest.cloned id v at);
-            clocks = clocks_view start kept.history kept.made kept.holder kept.splitter s.words s.views id w kept.clocks (λ alive. now);
-            pairs = pairs_told start.cpus (opens_at start) kept.chain kept.writer s.words s.views id v w kept.pairs at refl;
-            modes = modes_fit start kept.percpu kept.offset kept.watcher s.words s.views id w kept.modes (fits_settled kept.percpu kept.offset kept.watcher id v.modes (kept.modes.each id v at));
-          }),
+          (changed start s _ kept.chain kept.offset kept refl
+          (λ stable. whole_view kept.history s.views id w (kept.whole stable) (kept.whole stable id v at))
+          (λ stable. let rest = kept.quiet stable in quiet_view kept.chain s.views id w rest (rest.unknown id v at) (rest.cloned id v at))
+          (clocks_view start kept.history kept.made kept.holder kept.splitter s.words s.views id w kept.clocks (λ alive. now))
+          (pairs_told start.cpus (opens_at start) kept.chain kept.writer s.words s.views id v w kept.pairs at refl)
+          (modes_fit start kept.percpu kept.offset kept.watcher s.words s.views id w kept.modes (fits_settled kept.percpu kept.offset kept.watcher id v.modes (kept.modes.each id v at)))),
       record {
         slots_kept = refl;
         settles = record {

@@ -17,8 +17,9 @@ use Rattle.clk_words.specs.Histories.{opens_at}
 use Rattle.clk_words.specs.Bounds.{IsGtod, IsRaw}
 use Rattle.clk_words.specs.Parts.{gtod_of, raw_of, part_of, put_part, last_from}
 use Rattle.clk_words.specs.Rights.{has_number}
-use Rattle.clk_words.specs.Kept.{Chain, last_of, Knows, Kept}
+use Rattle.clk_words.specs.WordsRule.{Chain, last_of, Knows, Kept}
 use Rattle.clk_words.specs.Told.{Finds, stamped, LoadedGtod, LoadedRaw, StoredGtod, StoredRaw}
+use Rattle.clk_words.proofs.Changing.{changed}
 use Rattle.clk_words.proofs.Fronts.{begins_self, begins_none, begins_length}
 use Rattle.clk_words.proofs.Places.{set_same}
 use Rattle.clk_words.proofs.Registers.{put_here, last_more}
@@ -40,26 +41,13 @@ keeps_load start s id i r v name x more kept at live percpu all =
     let w = found_view v r name x (kept.chain r) more in
     let fits = kept.clocks.each id v at live in
     subst (λ ws. Kept start (record { words = ws; homes = s.homes; views = set s.views id w })) (sym (set_same s.words i))
-    (record {
-      history = kept.history;
-      made = kept.made;
-      holder = kept.holder;
-      splitter = kept.splitter;
-      chain = kept.chain;
-      writer = kept.writer;
-      percpu = kept.percpu;
-      offset = kept.offset;
-      watcher = kept.watcher;
-      wide = kept.wide;
-      lifts_first = kept.lifts_first;
-      lifted = kept.lifted;
-      whole = λ stable. absurd (true≢false (sym percpu ∙ stable));
-      quiet = λ stable. absurd (true≢false (sym percpu ∙ stable));
-      clocks = clocks_view start kept.history kept.made kept.holder kept.splitter s.words s.views id w kept.clocks
-          (λ alive. fits_seen start kept.history kept.made kept.holder kept.splitter id v v.seen w.loads w.pairs fits (begins_self v.seen) fits.front);
-      pairs = pairs_load start.cpus (opens_at start) kept.chain kept.writer s.words s.views id r v w kept.pairs at more all refl;
-      modes = modes_view start kept.percpu kept.offset kept.watcher s.words s.views id v w kept.modes at refl;
-    })
+    (changed start s _ kept.chain kept.offset kept refl
+    (λ stable. absurd (true≢false (sym percpu ∙ stable)))
+    (λ stable. absurd (true≢false (sym percpu ∙ stable)))
+    (clocks_view start kept.history kept.made kept.holder kept.splitter s.words s.views id w kept.clocks
+    (λ alive. fits_seen start kept.history kept.made kept.holder kept.splitter id v v.seen w.loads w.pairs fits (begins_self v.seen) fits.front))
+    (pairs_load start.cpus (opens_at start) kept.chain kept.writer s.words s.views id r v w kept.pairs at more all refl)
+    (modes_view start kept.percpu kept.offset kept.watcher s.words s.views id v w kept.modes at refl))
 
 same_stamp : (c : Chain) (p : Part) → Knows c p → (z : ℤ) → p.zero ≡ Some z → c.zero_is ≡ z
 same_stamp c p knows z e = ⊎_elim (λ (h : p.zero ≡ None). absurd (cc)) (λ (h : p.zero ≡ Some c.zero_is). cc) knows.zero_is
@@ -153,28 +141,15 @@ keeps_store start s id r cpu n x v kept at live percpu own low reg word whole ah
     let w = stamped r x v in
     let fits = kept.clocks.each id v at live in
     let within : r < 2 * start.cpus = ⊎_elim (λ (e : r ≡ gtod_of cpu). omega arith) (λ (e : r ≡ raw_of cpu). omega arith) reg.either in
-    record {
-      history = kept.history;
-      made = kept.made;
-      holder = kept.holder;
-      splitter = kept.splitter;
-      chain = later_chain kept.chain r x;
-      writer = kept.writer;
-      percpu = kept.percpu;
-      offset = kept.offset;
-      watcher = kept.watcher;
-      wide = length-set s.words (start.cpus + r) n ∙ kept.wide;
-      lifts_first = kept.lifts_first;
-      lifted = kept.lifted;
-      whole = λ stable. absurd (true≢false (sym percpu ∙ stable));
-      quiet = λ stable. absurd (true≢false (sym percpu ∙ stable));
-      clocks = clocks_view start kept.history kept.made kept.holder kept.splitter (set s.words (start.cpus + r) n) s.views id w
-          (clocks_words start kept.history kept.made kept.holder kept.splitter s.words s.views (start.cpus + r) n (omega arith) kept.clocks)
-          (λ alive. fits_seen start kept.history kept.made kept.holder kept.splitter id v v.seen v.loads w.pairs fits (begins_self v.seen) fits.front);
-      pairs = pairs_store start.cpus (opens_at start) kept.chain kept.writer s.words s.views id r cpu n x v w kept.pairs at own reg (omega (arith, kept.wide)) word whole ahead close gtods raws refl;
-      modes = modes_view start kept.percpu kept.offset kept.watcher (set s.words (start.cpus + r) n) s.views id v w
-          (modes_word start kept.percpu kept.offset kept.watcher s.words s.views (start.cpus + r) n (omega arith) kept.modes) at refl;
-    }
+    changed start s _ (later_chain kept.chain r x) kept.offset kept (length-set s.words (start.cpus + r) n)
+    (λ stable. absurd (true≢false (sym percpu ∙ stable)))
+    (λ stable. absurd (true≢false (sym percpu ∙ stable)))
+    (clocks_view start kept.history kept.made kept.holder kept.splitter (set s.words (start.cpus + r) n) s.views id w
+    (clocks_words start kept.history kept.made kept.holder kept.splitter s.words s.views (start.cpus + r) n (omega arith) kept.clocks)
+    (λ alive. fits_seen start kept.history kept.made kept.holder kept.splitter id v v.seen v.loads w.pairs fits (begins_self v.seen) fits.front))
+    (pairs_store start.cpus (opens_at start) kept.chain kept.writer s.words s.views id r cpu n x v w kept.pairs at own reg (omega (arith, kept.wide)) word whole ahead close gtods raws refl)
+    (modes_view start kept.percpu kept.offset kept.watcher (set s.words (start.cpus + r) n) s.views id v w
+    (modes_word start kept.percpu kept.offset kept.watcher s.words s.views (start.cpus + r) n (omega arith) kept.modes) at refl)
 
 after_grown : (c : Chain) (x : ℤ) → length (grown_chain c x).after ≡ length c.after + 1
 after_grown c x = length-append c.after (x ∷ [])

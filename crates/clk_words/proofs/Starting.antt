@@ -18,7 +18,7 @@ use Rattle.clk_words.specs.Bounds.{IsOpening}
 use Rattle.clk_words.specs.Parts.{gtod_of, raw_of, part_of, PartBegins}
 use Rattle.clk_words.specs.Rights.{has_number}
 use Rattle.clk_words.specs.Views.{is_percpu, pairs_known, first_view}
-use Rattle.clk_words.specs.Kept.{IsOwn, Fits, HistoryPart, Chain, Knows, FitsPairs, PairPart, FitsModes, ModePart, Kept}
+use Rattle.clk_words.specs.WordsRule.{IsOwn, Fits, HistoryPart, Chain, Knows, FitsPairs, PairPart, FitsModes, ModePart, Kept}
 use Rattle.clk_words.specs.FirstWords.{AreFirst}
 use Rattle.clk_words.proofs.Fronts.{begins_self}
 use Rattle.clk_words.proofs.Replay.{opening_range, offset_range}

@@ -20,8 +20,9 @@ use Rattle.clk_words.specs.Bounds.{IsGtod, IsRaw, IsOffset}
 use Rattle.clk_words.specs.Parts.{gtod_of, raw_of, part_of, put_part, PartBegins}
 use Rattle.clk_words.specs.Rights.{has_number}
 use Rattle.clk_words.specs.Knowing.{MayDemote, HoldsInRange, HasLifted}
-use Rattle.clk_words.specs.Kept.{Chain, last_of, Knows, FitsPairs, PairPart, ModePart, IsQuiet, Kept}
+use Rattle.clk_words.specs.WordsRule.{Chain, last_of, Knows, FitsPairs, PairPart, ModePart, IsQuiet, Kept}
 use Rattle.clk_words.specs.Told.{offset_put, pair_cloned, published, Lifted, StoredOffset, Cloned, StoredMode}
+use Rattle.clk_words.proofs.Changing.{changed}
 use Rattle.clk_words.proofs.Fronts.{begins_self}
 use Rattle.clk_words.proofs.Places.{placed}
 use Rattle.clk_words.proofs.Registers.{put_here, put_else}
@@ -29,7 +30,7 @@ use Rattle.clk_words.proofs.Clocks.{clocks_view, clocks_words, makes_view}
 use Rattle.clk_words.proofs.Pairs.{pairs_view}
 use Rattle.clk_words.proofs.Modes.{modes_fit, modes_word, fits_cloned, modes_put, modes_published}
 use Rattle.clk_words.proofs.Quiet.{whole_view, quiet_view}
-use Rattle.clk_words.proofs.Keeping.{made_by, raised_word, raise_range}
+use Rattle.clk_words.proofs.WordsSteps.{made_by, raised_word, raise_range}
 
 -- the seat may demote: then the mode is stable
 stable_is : (start : Start) (s : State Step View) (id : ℕ) (v : View) → (kept : Kept start s) → get_elem? s.views id ≡ some v → MayDemote v → kept.percpu ≡ false
@@ -116,28 +117,15 @@ stores_offset start slots id word n me x place live may bits range =
           w,
           keeps,
           tt,
-          record {
-            history = kept.history;
-            made = kept.made;
-            holder = kept.holder;
-            splitter = kept.splitter;
-            chain = kept.chain;
-            writer = kept.writer;
-            percpu = kept.percpu;
-            offset = x;
-            watcher = kept.watcher;
-            wide = length-set s.words i n ∙ kept.wide;
-            lifts_first = kept.lifts_first;
-            lifted = kept.lifted;
-            whole = λ same. whole_view kept.history s.views id w (kept.whole same) (kept.whole same id v at);
-            quiet = λ same. let rest = kept.quiet same in quiet_view kept.chain s.views id w rest (rest.unknown id v at) (rest.cloned id v at);
-            clocks = clocks_view start kept.history kept.made kept.holder kept.splitter (set s.words i n) s.views id w
-                (clocks_words start kept.history kept.made kept.holder kept.splitter s.words s.views i n (omega arith) kept.clocks)
-                (λ alive. record { start_is = fits.start_is; front = fits.front; lists = fits.lists; single = fits.single; splits = fits.splits; told_is = fits.told_is });
-            pairs = pairs_view start.cpus (opens_at start) kept.chain kept.writer (set s.words i n) s.views id v w
-                (pairs_behind start.cpus (opens_at start) kept.chain kept.writer s.words s.views i n (omega arith) kept.pairs) at refl;
-            modes = modes_put start kept.percpu kept.offset kept.watcher s.words s.views id n x v w kept.modes at may.watch stable (omega (arith, kept.wide)) bits range refl;
-          },
+          changed start s _ kept.chain x kept (length-set s.words i n)
+              (λ same. whole_view kept.history s.views id w (kept.whole same) (kept.whole same id v at))
+              (λ same. let rest = kept.quiet same in quiet_view kept.chain s.views id w rest (rest.unknown id v at) (rest.cloned id v at))
+              (clocks_view start kept.history kept.made kept.holder kept.splitter (set s.words i n) s.views id w
+              (clocks_words start kept.history kept.made kept.holder kept.splitter s.words s.views i n (omega arith) kept.clocks)
+              (λ alive. record { start_is = fits.start_is; front = fits.front; lists = fits.lists; single = fits.single; splits = fits.splits; told_is = fits.told_is }))
+              (pairs_view start.cpus (opens_at start) kept.chain kept.writer (set s.words i n) s.views id v w
+              (pairs_behind start.cpus (opens_at start) kept.chain kept.writer s.words s.views i n (omega arith) kept.pairs) at refl)
+              (modes_put start kept.percpu kept.offset kept.watcher s.words s.views id n x v w kept.modes at may.watch stable (omega (arith, kept.wide)) bits range refl),
           record { value = x; word_is = bits; is = refl },
         )
 
@@ -231,30 +219,17 @@ clones start slots id r n me x low live may bits gtods raws s kept homes at smal
       w,
       keeps,
       tt,
-      record {
-        history = kept.history;
-        made = kept.made;
-        holder = kept.holder;
-        splitter = kept.splitter;
-        chain = cloned_chain kept.chain r x;
-        writer = kept.writer;
-        percpu = kept.percpu;
-        offset = kept.offset;
-        watcher = kept.watcher;
-        wide = length-set s.words i n ∙ kept.wide;
-        lifts_first = kept.lifts_first;
-        lifted = kept.lifted;
-        whole = λ same. whole_view kept.history s.views id w (kept.whole same) (kept.whole same id v at);
-        quiet = λ same. quiet_clone kept.chain s.views id kept.watcher r x v rest at may.watch (λ j u here h. (kept.modes.each j u here).watches h);
-        clocks = clocks_view start kept.history kept.made kept.holder kept.splitter (set s.words i n) s.views id w
-            (clocks_words start kept.history kept.made kept.holder kept.splitter s.words s.views i n (omega arith) kept.clocks)
-            (λ alive. record { start_is = fits.start_is; front = fits.front; lists = fits.lists; single = fits.single; splits = fits.splits; told_is = fits.told_is });
-        pairs = pairs_view start.cpus (opens_at start) (cloned_chain kept.chain r x) kept.writer (set s.words i n) s.views id v w
-            (pairs_clone start.cpus (opens_at start) kept.chain kept.writer s.words s.views r n x kept.pairs rest wide bits gtods raws) at refl;
-        modes = modes_fit start kept.percpu kept.offset kept.watcher (set s.words i n) s.views id w
-            (modes_word start kept.percpu kept.offset kept.watcher s.words s.views i n (omega arith) kept.modes)
-            (fits_cloned kept.percpu kept.offset kept.watcher id r x v.modes (kept.modes.each id v at));
-      },
+      changed start s _ (cloned_chain kept.chain r x) kept.offset kept (length-set s.words i n)
+          (λ same. whole_view kept.history s.views id w (kept.whole same) (kept.whole same id v at))
+          (λ same. quiet_clone kept.chain s.views id kept.watcher r x v rest at may.watch (λ j u here h. (kept.modes.each j u here).watches h))
+          (clocks_view start kept.history kept.made kept.holder kept.splitter (set s.words i n) s.views id w
+          (clocks_words start kept.history kept.made kept.holder kept.splitter s.words s.views i n (omega arith) kept.clocks)
+          (λ alive. record { start_is = fits.start_is; front = fits.front; lists = fits.lists; single = fits.single; splits = fits.splits; told_is = fits.told_is }))
+          (pairs_view start.cpus (opens_at start) (cloned_chain kept.chain r x) kept.writer (set s.words i n) s.views id v w
+          (pairs_clone start.cpus (opens_at start) kept.chain kept.writer s.words s.views r n x kept.pairs rest wide bits gtods raws) at refl)
+          (modes_fit start kept.percpu kept.offset kept.watcher (set s.words i n) s.views id w
+          (modes_word start kept.percpu kept.offset kept.watcher s.words s.views i n (omega arith) kept.modes)
+          (fits_cloned kept.percpu kept.offset kept.watcher id r x v.modes (kept.modes.each id v at))),
       record {
         value = x;
         word_is = bits;

@@ -52,15 +52,15 @@ pub record Joins (a b w : View) : Type 0 where
   pub second_offset : KeepsOffset b w
 
 -- all steps that a seat has
-abbrev pub all_steps : View → List Step
-all_steps v = flat_map (λ own. own.1) (own_lists v)
+abbrev pub own_steps : View → List Step
+own_steps v = flat_map (λ own. own.1) (own_lists v)
 
 -- the history has each own step once, each seat's in its order, and is a chain on each word
 pub record IsComplete (start : Start) (v : View) (history : List Step) : Type 0 where
   pub is : history ≡ v.seen
   pub legal : IsGlobalHistory start history
-  pub once : (f : Step → ℕ) → sum_by f history ≡ sum_by f (all_steps v)
-  pub order : (n : ℕ) → steps_by n history ≡ steps_by n (all_steps v)
+  pub once : (f : Step → ℕ) → sum_by f history ≡ sum_by f (own_steps v)
+  pub order : (n : ℕ) → steps_by n history ≡ steps_by n (own_steps v)
   pub lists : All (λ own. steps_by own.0 history ≡ own.1) (own_lists v)
   pub made_by : All (λ s. s.by < v.made) history
   pub chain : (w : ℕ) → IsChain (opens_at start) (steps_on w history)

@@ -63,10 +63,10 @@ abbrev pub StampsAreHalf : View → Type 0
 StampsAreHalf v = gtods_known v (cpu_of v.kind) ≡ raws_known v (cpu_of v.kind) + 1
 
 -- it shows another kind than the watchdog's
-abbrev pub IsReading : SeatKind → Type 0
-IsReading (Owner cpu) = Unit {0}
-IsReading (Reader cpu) = Unit {0}
-IsReading Watch = ⊥
+abbrev pub IsReadingKind : SeatKind → Type 0
+IsReadingKind (Owner cpu) = Unit {0}
+IsReadingKind (Reader cpu) = Unit {0}
+IsReadingKind Watch = ⊥
 
 -- readers without end, and each other kind once
 abbrev pub MayGive : View → SeatKind → Type 0
@@ -113,7 +113,7 @@ IsTrusted v (Couple from value) = HasLoaded v (Clock from) value
 IsTrusted v (Lift value) = ⊥
 
 -- each value that a step names is in its range, where words open so
-abbrev pub IsWithin : ℤ → Why → Type 0
-IsWithin opens (Raise raw tick_raw tick_gtod offset) = IsRaw opens raw × IsRaw opens tick_raw × IsGtod tick_gtod × IsOffset opens offset
-IsWithin opens (Couple from value) = IsClock opens value
-IsWithin opens (Lift value) = IsClock opens value
+abbrev pub AreValuesInRange : ℤ → Why → Type 0
+AreValuesInRange opens (Raise raw tick_raw tick_gtod offset) = IsRaw opens raw × IsRaw opens tick_raw × IsGtod tick_gtod × IsOffset opens offset
+AreValuesInRange opens (Couple from value) = IsClock opens value
+AreValuesInRange opens (Lift value) = IsClock opens value

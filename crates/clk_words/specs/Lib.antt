@@ -7,11 +7,11 @@ pub mod Heights
 pub mod Parts
 pub mod Rights
 pub mod Views
-pub mod Kept
+pub mod WordsRule
 pub mod Knowing
 pub mod Told
 pub mod Held
-pub mod Seated
+pub mod WordSeats
 pub mod FirstWords
 pub mod Calls
 pub mod Laws

@@ -27,7 +27,7 @@ impl Model for Closed {
     ghost use Rattle.std.specs.Slots.{slots_items, slots_len, IsFull};
     ghost use Rattle.std.specs.Prelude.{◌≡◌};
     ghost use Rattle.clk_words.specs.Histories.{opens_at};
-    ghost use Rattle.clk_words.specs.Seated.{AreEnded};
+    ghost use Rattle.clk_words.specs.WordSeats.{AreEnded};
 
     ghost view = { λ c. record { start = c.last.value.me.0.start; history = c.last.value.me.0.seen } };
 

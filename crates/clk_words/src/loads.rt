@@ -2,7 +2,7 @@
 ghost use Rattle.std.specs.Prelude.{◌≡◌, ◌+◌, ◌*◌, ◌<◌};
 ghost use Rattle.clk_words.specs.Kinds.{cpu_of};
 ghost use Rattle.clk_words.specs.Views.{mode_of};
-ghost use Rattle.clk_words.specs.Knowing.{HasFoundPerCpu, IsReading};
+ghost use Rattle.clk_words.specs.Knowing.{HasFoundPerCpu, IsReadingKind};
 ghost use Rattle.clk_words.specs.Held.{place_of};
 ghost use Rattle.clk_words.specs.Told.{Loads, FindsGtod, FindsRaw, FindsMode, FindsOffset};
 
@@ -30,7 +30,7 @@ impl Words {
     pub fn load_gtod(&self, seat: &mut Seat) -> i64
         requires own { place_of seat.old ≡ self.now }
         requires found { HasFoundPerCpu seat.old.view }
-        requires reading { IsReading seat.old.view.kind }
+        requires reading { IsReadingKind seat.old.view.kind }
         ensures own { place_of seat.new ≡ self.now }
         ensures finds { FindsGtod seat.old.view (cpu_of seat.old.view.kind) result seat.new.view }
     {
@@ -42,7 +42,7 @@ impl Words {
     pub fn load_raw(&self, seat: &mut Seat) -> i64
         requires own { place_of seat.old ≡ self.now }
         requires found { HasFoundPerCpu seat.old.view }
-        requires reading { IsReading seat.old.view.kind }
+        requires reading { IsReadingKind seat.old.view.kind }
         ensures own { place_of seat.new ≡ self.now }
         ensures finds { FindsRaw seat.old.view (cpu_of seat.old.view.kind) result seat.new.view }
     {
@@ -55,7 +55,7 @@ impl Words {
     pub fn load_offset(&self, seat: &mut Seat) -> i64
         requires own { place_of seat.old ≡ self.now }
         requires found { HasFoundPerCpu seat.old.view }
-        requires reading { IsReading seat.old.view.kind }
+        requires reading { IsReadingKind seat.old.view.kind }
         ensures own { place_of seat.new ≡ self.now }
         ensures finds { FindsOffset seat.old.view result seat.new.view }
     {

@@ -9,7 +9,7 @@ use std::marker::{Brand, PhantomData};
 pub struct OneHistory;
 
 impl TableRule<Step, View, Start> for OneHistory {
-    ghost use Rattle.clk_words.specs.Kept.{Kept};
+    ghost use Rattle.clk_words.specs.WordsRule.{Kept};
     ghost use Rattle.clk_words.specs.Views.{first_view};
 
     ghost holds = { Kept };

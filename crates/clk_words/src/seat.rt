@@ -23,7 +23,7 @@ impl Model for Seat {
 
     ghost Value = { Held };
 
-    ghost use Rattle.clk_words.specs.Seated.{held_of, IsSeated};
+    ghost use Rattle.clk_words.specs.WordSeats.{held_of, IsSeated};
 
     ghost view = { λ s. held_of s.at };
 

@@ -36,7 +36,7 @@ impl Model for Words {
 
     ghost Value = { Place };
 
-    ghost use Rattle.clk_words.specs.Seated.{AreWords};
+    ghost use Rattle.clk_words.specs.WordSeats.{AreWords};
 
     ghost view = { λ w. record { table = w.table.shared.table_id; start = w.table.shared.key } };
 

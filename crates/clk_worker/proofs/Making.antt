@@ -1,5 +1,5 @@
 -- What a thread made in its first words and then in one more it made in all of them.
-use Rattle.std.proofs.Common.{◌≡◌, ◌≢◌, ℕ, suc, ◌+◌, ◌*◌, ◌≤◌, ◌<◌, ◌==◌, false, ◌∙◌, ap, pos, List, [], ◌∷◌, ◌++◌, length, take, drop, get_or, Some, inl, inr, refl, sym, subst, arith, append_assoc, append-nil, add-one, zero-add, length-append, drop-cons}
+use Rattle.std.proofs.Common.{◌≡◌, ◌≢◌, ℕ, zero, suc, ◌+◌, ◌-◌, ◌*◌, ◌≤◌, ◌<◌, ◌==◌, false, ◌∙◌, ap, pos, List, [], ◌∷◌, ◌++◌, length, take, drop, get_or, Option, Some, inl, inr, refl, sym, subst, arith, append_assoc, append-nil, add-one, zero-add, length-append, drop-cons}
 use mathlib.Core.Logic.{dite}
 use native.Mathlib.Decide.{dec_lt}
 use Rattle.std.proofs.lemmas.Bool.Decides.{nat_tests}
@@ -15,15 +15,15 @@ use Rattle.clk_machine.specs.declared.script.Word.{Word}
 use Rattle.clk_machine.specs.declared.script.Word.TheVariants as word
 use Rattle.clk_words.specs.Held.{Held, place_of}
 use Rattle.clk_words.specs.Kinds.{cpu_of}
-use Rattle.clk_words.specs.Knowing.{IsReading}
+use Rattle.clk_words.specs.Knowing.{IsReadingKind}
 use Rattle.clk_latch.specs.Epoch.{Place}
 use Rattle.clk_local.specs.Context.{Site, Known, site_of, Keeps}
 use Rattle.clk_trace.specs.ScriptEvents.{Calls, IsRemoteReading, events_at, AreEventsOf}
 use Rattle.clk_trace.specs.declared.event.Event.{Event}
 use Rattle.clk_trace.specs.declared.event.EventKind.{EventKind}
 use Rattle.clk_worker.specs.Running.{IsSound, OwnsClock, Runs}
-use Rattle.clk_worker.specs.Calling.{Context, site_at, has, known, HasSeatsOf, IsContext, Serves, IsOfOwner, MayMake, StandsOn, KeepsEvents, Spends, updates_in}
-use Rattle.clk_worker.specs.Making.{Hand, script_of, FitTogether, SeatsServe, HasEnough, HasMade, IsGoing, Begins, BelongsTo, WentOn, MakesAt, MakesWord}
+use Rattle.clk_worker.specs.Calling.{Context, site_at, has, known, HasSeatsOf, IsContext, seats_in, IsOver, Serves, IsOfOwner, MayMake, StandsOn, KeepsEvents, SpendsAtMost, updates_in}
+use Rattle.clk_worker.specs.Making.{Hand, script_of, FitTogether, SeatsServe, HasEnough, HasMade, IsGoing, Begins, BelongsTo, WentOn, MakesAt, MakesWord, MakesWords}
 use Rattle.clk_worker.specs.declared.shared.Shared.{Shared}
 use Rattle.clk_worker.specs.declared.own.Post.{Post}
 use Rattle.clk_worker.specs.declared.own.Own.{Own}
@@ -117,7 +117,7 @@ serve_after s p share m o after a b h made =
       of_words = ap place_of seat ∙ r.usable.of_words ∙ words;
       of_latch = subst (λ x. x ≡ get_or s.epochs.items p.cpu x) (sym latch) c.epochs;
       of_tickets = ap (λ (x : Time). x.table) made.seats.time ∙ r.usable.of_tickets ∙ ap (λ (x : Tickets). x.table) (made.makes.stands.tickets ∙ c.tickets);
-      reading = subst (λ (x : Held). IsReading x.view.kind) (sym seat) r.usable.reading;
+      reading = subst (λ (x : Held). IsReadingKind x.view.kind) (sym seat) r.usable.reading;
       cpu_is = ap (λ (z : Site). z.cpu) (sym site) ∙ r.usable.cpu_is ∙ ap (λ (x : Held). cpu_of x.view.kind) (sym seat);
       sound =
           sound_at s p m 0 share (has after)
@@ -139,9 +139,9 @@ enough_after s p m o after a b low h made =
     let tickets = rw (is, sum_by-cons tickets_of made.word (drop (m + 1) ws)) at h.tickets in
     let updates = rw (is, sum_by-cons updates_in made.word (drop (m + 1) ws)) at h.updates in
     let room = rw is at h.room in
-    let spends : Spends (tickets_of made.word) (updates_in made.word) (has o) (has after) =
-    subst (λ (x : Known). Spends (tickets_of made.word) (updates_in made.word) x (has after)) (has_is made.before o made.context.seats)
-    (subst (λ (x : Known). Spends (tickets_of made.word) (updates_in made.word) (known made.before) x) (has_is made.later after made.seats) made.makes.spends) in
+    let spends : SpendsAtMost (tickets_of made.word) (updates_in made.word) (has o) (has after) =
+    subst (λ (x : Known). SpendsAtMost (tickets_of made.word) (updates_in made.word) x (has after)) (has_is made.before o made.context.seats)
+    (subst (λ (x : Known). SpendsAtMost (tickets_of made.word) (updates_in made.word) (known made.before) x) (has_is made.later after made.seats) made.makes.spends) in
     let drawn = spends.tickets_left in
     let updated = spends.updates_left in
     let kept = made.makes.keeps.room in
@@ -218,29 +218,31 @@ made_more s p began m o after a b low h made =
 
 -- ---- the worker
 
+-- the worker after its next word
+abbrev after_word : Hand → Own → Listed Event → Hand
+after_word v after b = record v { next = v.next + 1; own = Some after; events = b }
+
 -- however it was made, the word takes it on
-pub going_more : (s : Shared) (first v w : Hand) (o after : Own) → v.own ≡ Some o → w ≡ record v { next = v.next + 1; own = Some after; events = w.events }
-    → v.next < length (script_of s v.post) → MakesAt s v.post v.next o v.events after w.events → IsGoing s first v → IsGoing s first w
-going_more s first v w o after seats is low made going =
+going_more : (s : Shared) (first v : Hand) (o after : Own) (b : Listed Event) → v.own ≡ Some o → v.next < length (script_of s v.post)
+    → MakesAt s v.post v.next o v.events after b → IsGoing s first v → IsGoing s first (after_word v after b)
+going_more s first v o after b seats low made going =
     let same : going.own ≡ o = (let e : Some going.own ≡ Some o = sym going.own_is ∙ seats in cc) in
     let now = subst (λ (x : Own). HasMade s v.post going.began v.next x v.events) same going.made in
-    let more = made_more s v.post going.began v.next o after v.events w.events low now made in
-    rw is (record { began = going.began; began_is = going.began_is; own = after; own_is = refl; post = going.post; made = more })
+    let more = made_more s v.post going.began v.next o after v.events b low now made in
+    record { began = going.began; began_is = going.began_is; own = after; own_is = refl; post = going.post; made = more }
 
-pub makes_word : (s : Shared) (m : ℕ) (v w : Hand) (o after : Own) → m ≡ v.next → v.own ≡ Some o → w ≡ record v { next = m + 1; own = Some after; events = w.events }
-    → m < length (script_of s v.post) → MakesAt s v.post m o v.events after w.events → MakesWord s m v w
-makes_word s m v w o after at seats is low made =
-    let one = made_word s v.post m o after v.events w.events made in
+makes_word : (s : Shared) (v : Hand) (o after : Own) (b : Listed Event) → v.own ≡ Some o → v.next < length (script_of s v.post)
+    → MakesAt s v.post v.next o v.events after b → MakesWord s v.next v (after_word v after b)
+makes_word s v o after b seats low made =
+    let one = made_word s v.post v.next o after v.events b made in
     record {
-      next = ap (λ (h : Hand). h.next) is;
+      next = refl;
       word = one.word;
       word_is = one.is;
       kinds = one.kinds;
       calls = one.calls;
       events = one.events;
-      went = λ first going.
-          going_more s first v w o after seats (subst (λ (n : ℕ). w ≡ record v { next = n + 1; own = Some after; events = w.events }) at is)
-          (subst (λ (n : ℕ). n < length (script_of s v.post)) at low) (subst (λ (n : ℕ). MakesAt s v.post n o v.events after w.events) at made) going;
+      went = λ first going. going_more s first v o after b seats low made going;
     }
 
 -- it begins with no word made
@@ -265,27 +267,138 @@ begins p o events s may =
 
 -- ---- what a worker's standing tells
 
-pub same_post : (s : Shared) (v w : Hand) → BelongsTo s v → WentOn s v w → w.post ≡ v.post
-same_post s v w b went = let first = b.0 in let now = went first b.1 in now.post ∙ sym b.1.post
-
-pub belongs_on : (s : Shared) (v w : Hand) → BelongsTo s v → WentOn s v w → BelongsTo s w
-belongs_on s v w b went = (b.0, went b.0 b.1)
-
 -- its thread is one of the machine's
 pub thread_there : (s : Shared) (h : Hand) → BelongsTo s h → h.post.thread < length (threads_of s.machine)
 thread_there s h b = b.1.made.serves.thread
+
+-- its CPU has a latch
+pub latch_there : (s : Shared) (h : Hand) → BelongsTo s h → h.post.cpu < length s.epochs.items
+latch_there s h b = let serves = b.1.made.serves in subst (λ (n : ℕ). h.post.cpu < n) (sym serves.shared.latches) serves.cpu
 
 -- its script has few words
 pub words_few : (s : Shared) (h : Hand) → BelongsTo s h → length (script_of s h.post) ≤ 65536
 words_few s h b = (thread_words s.machine h.post.thread b.1.made.serves.shared.limits (thread_there s h b)).few
 
--- from v to w, whose next word is m
-pub record RunsTo (s : Shared) (v : Hand) (m : ℕ) (w : Hand) : Type 0 where
-  pub next : w.next ≡ m
-  pub went : WentOn s v w
+-- ---- a run of words
 
-pub runs_on : (s : Shared) (v w u : Hand) (m : ℕ) → RunsTo s v m w → MakesWord s m w u → RunsTo s v (m + 1) u
-runs_on s v w u m r made = record { next = made.next; went = λ first going. made.went first (r.went first going) }
+-- the seats of a context are those that it was made on
+seats_are : (ctx : Context) (o : Own) → HasSeatsOf ctx o → seats_in ctx ≡ o
+seats_are ctx o h =
+    ap (λ (x : Held). record { seat = x; latch_seat = ctx.latch_seat; time = ctx.time }) (sym h.seat)
+    ∙ ap (λ (x : Place). record { seat = o.seat; latch_seat = x; time = ctx.time }) (sym h.latch_seat)
+    ∙ ap (λ (x : Time). record { seat = o.seat; latch_seat = o.latch_seat; time = x }) (sym h.time)
+
+-- a thread's context at one call is its context at each
+pub at_call : (s : Shared) (p : Post) (ctx : Context) (m : ℕ) → IsOver s p ctx → IsContext s p m (seats_in ctx) (record ctx { call = m })
+at_call s p ctx m h =
+    record {
+      seats = record { seat = refl; latch_seat = refl; time = refl };
+      site = ap (λ (z : Site). record z { call = m }) h.site;
+      words = h.words;
+      epochs = h.epochs;
+      tickets = h.tickets;
+    }
+
+-- and its context at a call is one at any call
+over_of : (s : Shared) (p : Post) (m : ℕ) (o : Own) (ctx : Context) → IsContext s p m o ctx → IsOver s p ctx
+over_of s p m o ctx h =
+    let call : ctx.call ≡ m = ap (λ (z : Site). z.call) h.site in
+    record {
+      seats = record { seat = refl; latch_seat = refl; time = refl };
+      site = subst (λ (n : ℕ). site_of ctx ≡ site_at s p n) (sym call) h.site;
+      words = h.words;
+      epochs = h.epochs;
+      tickets = h.tickets;
+    }
+
+-- a word leaves it the thread's
+pub over_after : (s : Shared) (p : Post) (m : ℕ) (o : Own) (v w : Context) → IsContext s p m o v → StandsOn v w → IsOver s p w
+over_after s p m o v w h on =
+    over_of s p m (seats_in w) w
+    (record {
+      seats = record { seat = refl; latch_seat = refl; time = refl };
+      site = on.site ∙ h.site;
+      words = on.words ∙ h.words;
+      epochs = subst (λ x. x ≡ get_or s.epochs.items p.cpu x) (sym on.epochs) h.epochs;
+      tickets = on.tickets ∙ h.tickets;
+    })
+
+-- the worker of this post whose seats a context has
+abbrev pub hand_in : Post → ℕ → Listed Event → Context → Hand
+hand_in p m events ctx = record { post = p; next = m; own = Some (seats_in ctx); events = events }
+
+-- the words from v's next one to before m were made, and the worker's seats are in a context of its thread
+pub record HasCome (s : Shared) (v : Hand) (m : ℕ) (p : Post) (events : Listed Event) (ctx : Context) : Type 0 where
+  pub post : p ≡ v.post
+  pub over : IsOver s p ctx
+  pub from : v.next ≤ m
+  pub made : MakesWords (m - v.next) s v (hand_in p m events ctx)
+
+-- before the first word
+pub sets_out : (s : Shared) (v : Hand) (o : Own) (ctx : Context) → v.own ≡ Some o → IsContext s v.post v.next o ctx → HasCome s v v.next v.post v.events ctx
+sets_out s v o ctx seats c =
+    let none : 0 ≡ v.next - v.next = omega arith in
+    let own : Some (seats_in ctx) ≡ v.own = ap (λ (x : Own). Some x) (seats_are ctx o c.seats) ∙ sym seats in
+    record {
+      post = refl;
+      over = over_of s v.post v.next o ctx c;
+      from = omega arith;
+      made = subst (λ (n : ℕ). MakesWords n s v (hand_in v.post v.next v.events ctx)) none (ap (λ (x : Option Own). record v { own = x }) own);
+    }
+
+-- a word more
+pub comes_on : (s : Shared) (v : Hand) (m : ℕ) (p : Post) (a b : Listed Event) (ctx after : Context) → m < length (script_of s p) → HasCome s v m p a ctx
+    → IsOver s p after → MakesAt s p m (seats_in ctx) a (seats_in after) b → HasCome s v (m + 1) p b after
+comes_on s v m p a b ctx after low h over made =
+    let from = h.from in
+    let more : suc (m - v.next) ≡ m + 1 - v.next = omega (arith, from) in
+    let u : Hand = hand_in p m a ctx in
+    let w : Hand = hand_in p (m + 1) b after in
+    record {
+      post = h.post;
+      over = over;
+      from = omega (arith, from);
+      made = subst (λ (n : ℕ). MakesWords n s v w) more (u, h.made, makes_word s u (seats_in ctx) (seats_in after) b refl low made);
+    }
+
+-- what each word took on they all did
+pub went_all : (n : ℕ) (s : Shared) (v w : Hand) → MakesWords n s v w → WentOn s v w
+went_all zero s v w is first going = subst (λ (h : Hand). IsGoing s first h) (sym is) going
+went_all (suc n) s v w made first going = made.2.went first (went_all n s v made.0 made.1 first going)
+
+-- the seats in the context serve the next word
+pub record IsReady (s : Shared) (p : Post) (m : ℕ) (events : Listed Event) (o : Own) : Type 0 where
+  pub serves : SeatsServe s p (share_of o.time) o
+  pub enough : HasEnough s p m o events
+
+pub ready : (s : Shared) (v : Hand) (m : ℕ) (p : Post) (events : Listed Event) (ctx : Context) → BelongsTo s v → HasCome s v m p events ctx
+    → IsReady s p m events (seats_in ctx)
+ready s v m p events ctx b h =
+    let going = went_all (m - v.next) s v (hand_in p m events ctx) h.made b.0 b.1 in
+    let same : going.own ≡ seats_in ctx = (let e : Some going.own ≡ Some (seats_in ctx) = sym going.own_is in cc) in
+    let now = subst (λ (x : Own). HasMade s p going.began m x events) same going.made in
+    record {
+      serves = subst (λ (n : ℕ). SeatsServe s p n (seats_in ctx)) (sym now.serves.sound.share_is) now.serves;
+      enough = now.enough;
+    }
+
+-- which stands in the script
+pub come_within : (s : Shared) (v : Hand) (m end : ℕ) (p : Post) (events : Listed Event) (ctx : Context) → HasCome s v m p events ctx → m < end
+    → end ≤ length (script_of s v.post) → m < length (script_of s p)
+come_within s v m end p events ctx h low within = subst (λ (q : Post). m < length (script_of s q)) (sym h.post) (omega (arith, low, within))
+
+-- after the last word: the worker with its seats back
+pub comes_back : (s : Shared) (v : Hand) (end : ℕ) (p : Post) (events : Listed Event) (ctx : Context) (o : Own) → HasCome s v end p events ctx → HasSeatsOf ctx o
+    → MakesWords (end - v.next) s v (record { post = p; next = end; own = Some o; events = events })
+comes_back s v end p events ctx o h seats =
+    subst (λ (x : Own). MakesWords (end - v.next) s v (record { post = p; next = end; own = Some x; events = events })) (seats_are ctx o seats) h.made
+
+-- a run of one word
+pub one_word : (s : Shared) (m : ℕ) (v w : Hand) → m ≡ v.next → MakesWords (m + 1 - v.next) s v w → MakesWord s m v w
+one_word s m v w at made =
+    let one : m + 1 - v.next ≡ suc zero = omega (arith, at) in
+    let only = subst (λ (n : ℕ). MakesWords n s v w) one made in
+    subst (λ (n : ℕ). MakesWord s n v w) (sym at) (subst (λ (u : Hand). MakesWord s u.next u w) only.1 only.2)
 
 -- ---- a word of a script
 

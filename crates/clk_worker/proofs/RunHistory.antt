@@ -21,7 +21,7 @@ use Rattle.clk_words.specs.Targets.{target}
 use Rattle.clk_words.proofs.Replay.{clock_near, AreClocks, opening_range, range_more, is_chain}
 use Rattle.clk_trace.specs.LegalHistory.{NamesSource, IsLegalHistory}
 use Rattle.clk_trace.specs.SortedHistory.{GoesUp, change_of}
-use Rattle.clk_trace.specs.WordHistory.{Placed, line_of, steps_on as placed_on, IsHistoryOf}
+use Rattle.clk_trace.specs.WordHistory.{Placed, line_of, placed_on, IsHistoryOf}
 use Rattle.clk_trace.specs.declared.trace.HistoryStep.{HistoryStep}
 use Rattle.clk_trace.proofs.Sorting.{sorted_chain}
 use Rattle.clk_worker.proofs.RunBrought.{brings_step, held_here, held_brought}

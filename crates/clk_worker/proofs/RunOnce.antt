@@ -9,15 +9,15 @@ use Rattle.std.proofs.lemmas.List.Sorted.{IsPermutation-refl, IsPermutation-tran
 use Rattle.clk_base.specs.Walk.{EachFrom}
 use Rattle.clk_num.specs.Listed.{Listed}
 use Rattle.clk_trace.specs.Lines.{step_line}
-use Rattle.clk_trace.specs.WordHistory.{Placed, line_of, steps_on, IsHistoryOf}
+use Rattle.clk_trace.specs.WordHistory.{Placed, line_of, placed_on, IsHistoryOf}
 use Rattle.clk_trace.specs.declared.trace.HistoryStep.{HistoryStep}
 
 -- the steps on other words than k
 abbrev steps_off : ℕ → List Placed → List Placed
 steps_off k placed = filter (λ p. not (p.step.word == k)) placed
 
-off_by : (k w : ℕ) (p : Placed) (off on : List Placed) (t : Bool) → k < w → (p.step.word == k) ≡ t → steps_on w off ≡ on
-    → steps_on w (cond (not t) (p ∷ off) off) ≡ cond (p.step.word == w) (p ∷ on) on
+off_by : (k w : ℕ) (p : Placed) (off on : List Placed) (t : Bool) → k < w → (p.step.word == k) ≡ t → placed_on w off ≡ on
+    → placed_on w (cond (not t) (p ∷ off) off) ≡ cond (p.step.word == w) (p ∷ on) on
 off_by k w p off on true low e same =
     let is : p.step.word ≡ k = (unsigned_Decides p.step.word k).0 e in
     let differ : (p.step.word == w) ≡ false = ne_eqb p.step.word w (λ (f : p.step.word ≡ w). omega (arith, is, f, low)) in
@@ -25,12 +25,12 @@ off_by k w p off on true low e same =
 off_by k w p off on false low e same = ap (λ (xs : List Placed). cond (p.step.word == w) (p ∷ xs) xs) same
 
 -- those on a later word are among them
-later_on : (k w : ℕ) (placed : List Placed) → k < w → steps_on w (steps_off k placed) ≡ steps_on w placed
+later_on : (k w : ℕ) (placed : List Placed) → k < w → placed_on w (steps_off k placed) ≡ placed_on w placed
 later_on k w [] low = refl
-later_on k w (p ∷ placed) low = off_by k w p (steps_off k placed) (steps_on w placed) (p.step.word == k) low refl (later_on k w placed low)
+later_on k w (p ∷ placed) low = off_by k w p (steps_off k placed) (placed_on w placed) (p.step.word == k) low refl (later_on k w placed low)
 
 abbrev HoldsLines : List Placed → ℕ → Listed HistoryStep → Type 0
-HoldsLines placed w lines = IsPermutation (map line_of (steps_on w placed)) lines.items
+HoldsLines placed w lines = IsPermutation (map line_of (placed_on w placed)) lines.items
 
 later_hold : (k n : ℕ) (placed : List Placed) (lists : List (Listed HistoryStep)) → k < n → EachFrom (HoldsLines placed) n lists → EachFrom (HoldsLines (steps_off k placed)) n lists
 later_hold k n placed [] low each = tt
@@ -62,7 +62,7 @@ hold_all k [] (p ∷ placed) within each =
     let to = range.1 in
     absurd (omega (arith, from, to))
 hold_all k (l ∷ lists) placed within each =
-    let here : List Placed = steps_on k placed in
+    let here : List Placed = placed_on k placed in
     let off : List Placed = steps_off k placed in
     let parts : IsPermutation placed (here ++ off) = IsPermutation-filter_both (λ (p : Placed). p.step.word == k) (λ p. not (p.step.word == k)) (λ p. refl) placed in
     let lines : IsPermutation (map line_of placed) (map line_of here ++ map line_of off) =
@@ -84,12 +84,12 @@ printed_lists (l ∷ lists) =
     map-append step_line l.items (flat_map (λ (x : Listed HistoryStep). x.items) lists) ∙ ap (λ xs. map step_line l.items ++ xs) (printed_lists lists)
 
 each_lines : (opening : ℤ) (placed : List Placed) (n : ℕ) (lists : List (Listed HistoryStep))
-    → EachFrom (λ w lines. IsHistoryOf opening (steps_on w placed) lines.items) n lists → EachFrom (HoldsLines placed) n lists
+    → EachFrom (λ w lines. IsHistoryOf opening (placed_on w placed) lines.items) n lists → EachFrom (HoldsLines placed) n lists
 each_lines opening placed n [] each = tt
 each_lines opening placed n (l ∷ lists) each = (each.0.all, each_lines opening placed (n + 1) lists each.1)
 
 pub holds_once : (opening : ℤ) (placed : List Placed) (lists : List (Listed HistoryStep)) → All (λ p. p.step.word < length lists) placed
-    → EachFrom (λ w lines. IsHistoryOf opening (steps_on w placed) lines.items) 0 lists
+    → EachFrom (λ w lines. IsHistoryOf opening (placed_on w placed) lines.items) 0 lists
     → IsPermutation (map (λ p. step_line (line_of p)) placed) (flat_map (λ lines. map step_line lines.items) lists)
 holds_once opening placed lists below each =
     let within : AreWithin 0 (length lists) placed = λ i d low. (let high = below i d low in (omega arith, omega (arith, high))) in

@@ -21,7 +21,7 @@ use Rattle.clk_machine.specs.declared.script.Word.{Word}
 use Rattle.clk_machine.specs.declared.script.Word.TheVariants as word
 use Rattle.clk_local.specs.Context.{Site, Known}
 use Rattle.clk_trace.specs.Modes.{shows_percpu, reads_percpu, Modes, IsOfMode, turned_after}
-use Rattle.clk_trace.specs.ScriptEvents.{IsReading, IsRemoteReading, IsTick, IsIdle, IsUpdate, IsPause, Calls, events_at, AreEventsOf}
+use Rattle.clk_trace.specs.ScriptEvents.{IsOwnReading, IsRemoteReading, IsTick, IsIdle, IsUpdate, IsPause, Calls, events_at, AreEventsOf}
 use Rattle.clk_trace.specs.declared.event.Event.{Event}
 use Rattle.clk_trace.specs.declared.event.EventKind.{EventKind}
 use Rattle.clk_trace.specs.declared.event.EventKind.TheVariants.{Stable, Local, Couple, Stamp, Nothing, Update, Pause}
@@ -43,7 +43,7 @@ HasLocal ks = any_kind shows_percpu ks ≡ true → any_kind reads_percpu ks ≡
 never : {A : Type 0} → false ≡ true → A
 never e = absurd (cc)
 
-reading_local : (ks : List EventKind) → IsReading ks → HasLocal ks
+reading_local : (ks : List EventKind) → IsOwnReading ks → HasLocal ks
 reading_local [] h e = absurd h
 reading_local (Stable raw value ∷ []) h e = never e
 reading_local (Stable raw value ∷ k ∷ ks) h e = absurd h
@@ -115,7 +115,7 @@ pause_local n (Update p ∷ ks) h e = absurd h
 pause_local n (Pause ticket count ∷ []) h e = never e
 pause_local n (Pause ticket count ∷ k ∷ ks) h e = absurd h
 
-either_local : (own : Bool) (asked : ℕ) (ks : List EventKind) → MatchBool own (IsReading ks) (IsRemoteReading asked ks) → HasLocal ks
+either_local : (own : Bool) (asked : ℕ) (ks : List EventKind) → MatchBool own (IsOwnReading ks) (IsRemoteReading asked ks) → HasLocal ks
 either_local true asked ks h e = reading_local ks h e
 either_local false asked ks h e = remote_local asked ks h e
 

@@ -23,20 +23,20 @@ use Rattle.clk_remote.specs.Shows.{mode_coupled, OnRemote, ShowsRemote}
 use Rattle.clk_remote.specs.declared.event.RemoteEvent.{RemoteEvent}
 use Rattle.clk_remote.specs.declared.event.RemoteEvent.TheVariants.{Coupled}
 use Rattle.clk_remote.specs.declared.event.RemoteEvent.TheVariants as remote
-use Rattle.clk_trace.specs.ScriptEvents.{IsReading, IsRemoteReading, IsTick, IsIdle, events_at}
+use Rattle.clk_trace.specs.ScriptEvents.{IsOwnReading, IsRemoteReading, IsTick, IsIdle, events_at}
 use Rattle.clk_trace.specs.declared.event.Event.{Event}
 use Rattle.clk_trace.specs.declared.event.EventKind.{EventKind}
 use Rattle.clk_trace.specs.declared.event.EventKind.TheVariants.{Local, Couple, Stamp}
 use Rattle.clk_trace.specs.declared.event.EventKind.TheVariants as kind
 use Rattle.clk_worker.specs.Running.{at_call, IsSound, kinds_of_why, kinds_of_step, kinds_of_reading, kinds_of_tick, HasPassed, HasLooked, Runs}
-use Rattle.clk_worker.specs.Calling.{kinds_of_remote, Spends}
+use Rattle.clk_worker.specs.Calling.{kinds_of_remote, SpendsAtMost}
 use Rattle.clk_worker.proofs.Sounding.{OwnsLatch, same_sound, reading_sound, stamp_sound, same_latch, reading_latch, stamp_latch}
 
 pub runs-append : (z : Site) (v : Known) (es : List Event) (u : Known) (fs : List Event) (w : Known) → Runs z v es u → Runs z u fs w → Runs z v (es ++ fs) w
 runs-append z v [] u fs w r s = rw r s
 runs-append z v (e ∷ es) u fs w r s = (r.0, r.1, r.2, r.3, runs-append z r.1 es u fs w r.4 s)
 
-pub spends_both : (a b c d : ℕ) (v u w : Known) → Spends a b v u → Spends c d u w → Spends (a + c) (b + d) v w
+pub spends_both : (a b c d : ℕ) (v u w : Known) → SpendsAtMost a b v u → SpendsAtMost c d u w → SpendsAtMost (a + c) (b + d) v w
 spends_both a b c d v u w p q =
     let x = p.tickets_left in
     let y = q.tickets_left in
@@ -112,7 +112,7 @@ raised_passed z v w raw step h =
 -- owner's
 pub record Showed (z : Site) (share call tickets : ℕ) (kinds : List EventKind) (v w : Known) : Type 0 where
   pub runs : Runs z v (events_at call kinds) w
-  pub spends : Spends tickets 0 v w
+  pub spends : SpendsAtMost tickets 0 v w
   pub sound : IsSound z share w
   pub latch : OwnsLatch z v → OwnsLatch z w
 
@@ -138,7 +138,7 @@ pub record ShowedAs (Called : List EventKind → Type 0) (most : ℕ) (z : Site)
 -- a reading of the own clock is one event
 pub record ShowedReading (z : Site) (share call : ℕ) (kinds : List EventKind) (v w : Known) : Type 0 where
   pub kind : EventKind
-  pub is : IsReading (kind ∷ [])
+  pub is : IsOwnReading (kind ∷ [])
   pub kinds_are : kinds ≡ kind ∷ []
   pub showed : Showed z share call 1 (kind ∷ []) v w
 

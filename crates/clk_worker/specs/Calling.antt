@@ -54,6 +54,14 @@ pub record IsContext (s : Shared) (p : Post) (call : ℕ) (o : Own) (ctx : Conte
   pub epochs : ctx.epochs.now ≡ slice_index_or s.epochs.items p.cpu ctx.epochs.now
   pub tickets : ctx.tickets.now ≡ s.tickets
 
+-- the seats that it has
+abbrev pub seats_in : Context → Own
+seats_in ctx = record { seat = ctx.seat; latch_seat = ctx.latch_seat; time = ctx.time }
+
+-- it is the context of a thread over the shared things, at whichever call
+abbrev pub IsOver : Shared → Post → Context → Type 0
+IsOver s p ctx = IsContext s p ctx.call (seats_in ctx) ctx
+
 -- a context of a thread, with so many of the run's tickets
 pub record Serves (share : ℕ) (ctx : Context) : Type 0 where
   pub usable : IsUsable (λ l s. s.latch ≡ l) (λ s. s.epoch) ctx
@@ -89,7 +97,7 @@ pub record KeepsEvents (call : ℕ) (kinds : List EventKind) (v w : Listed Event
 -- ---- one word
 
 -- of tickets and of updates so many of each were spent at most
-pub record Spends (tickets updates : ℕ) (v w : Known) : Type 0 where
+pub record SpendsAtMost (tickets updates : ℕ) (v w : Known) : Type 0 where
   pub tickets_left : v.time.left ≤ w.time.left + tickets
   pub updates_left : v.epoch.left ≤ w.epoch.left + updates
 
@@ -105,7 +113,7 @@ pub record Makes (word : Word) (v : Context) (a : Listed Event) (w : Context) (b
   pub few : length kinds ≤ 3
   pub keeps : KeepsEvents v.call kinds a b
   pub runs : Runs (site_of v) (known v) (events_at v.call kinds) (known w)
-  pub spends : Spends (tickets_of word) (updates_in word) (known v) (known w)
+  pub spends : SpendsAtMost (tickets_of word) (updates_in word) (known v) (known w)
   pub stands : StandsOn v w
   pub serves : Serves (share_of v.time) w
   pub owner : IsOfOwner v → IsOfOwner w

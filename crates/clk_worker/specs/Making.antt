@@ -1,5 +1,5 @@
 -- How a worker goes on with its script: from how it was made to how it is.
-use Rattle.std.specs.Prelude.{◌≡◌, ℕ, ◌+◌, ◌*◌, ◌^◌, ◌<◌, ◌≤◌, List, [], ◌++◌, length, take, drop, slice_index_or, Option, Some}
+use Rattle.std.specs.Prelude.{◌≡◌, ℕ, zero, suc, ◌+◌, ◌*◌, ◌^◌, ◌<◌, ◌≤◌, List, [], ◌++◌, length, take, drop, slice_index_or, Option, Some}
 use Rattle.std.specs.List.{sum_by}
 use Rattle.clk_num.specs.Listed.{Listed}
 use Rattle.clk_num.specs.Range.{IsNear, IsFrom0To}
@@ -7,7 +7,7 @@ use Rattle.clk_ticket.specs.Time.{share_of}
 use Rattle.clk_words.specs.Held.{place_of}
 use Rattle.clk_words.specs.Histories.{opens_at}
 use Rattle.clk_words.specs.Kinds.{cpu_of}
-use Rattle.clk_words.specs.Knowing.{IsReading}
+use Rattle.clk_words.specs.Knowing.{IsReadingKind}
 use Rattle.clk_machine.specs.Plan.{cpu_count, threads_of, thread_at}
 use Rattle.clk_machine.specs.Limits.{IsWithinLimits}
 use Rattle.clk_machine.specs.Records.{above_base}
@@ -59,7 +59,7 @@ pub record SeatsServe (s : Shared) (p : Post) (share : ℕ) (o : Own) : Type 0 w
   pub of_words : place_of o.seat ≡ s.words
   pub of_latch : o.latch_seat.latch ≡ slice_index_or s.epochs.items p.cpu o.latch_seat.latch
   pub of_tickets : o.time.table ≡ s.tickets.table
-  pub reading : IsReading o.seat.view.kind
+  pub reading : IsReadingKind o.seat.view.kind
   pub cpu_is : p.cpu ≡ cpu_of o.seat.view.kind
   pub sound : IsSound (site_at s p 0) share (has o)
   -- a CPU's own thread owns its clock
@@ -130,3 +130,8 @@ pub record MakesWord (s : Shared) (m : ℕ) (v w : Hand) : Type 0 where
   pub calls : Calls v.post.cpu word kinds
   pub events : w.events.items ≡ v.events.items ++ events_at m kinds
   pub went : WentOn s v w
+
+-- so many words were made from v to w, one after another
+abbrev pub MakesWords : ℕ → Shared → Hand → Hand → Type 0
+MakesWords zero s v w = w ≡ v
+MakesWords (suc n) s v w = (u : Hand) × MakesWords n s v u × MakesWord s u.next u w

@@ -3,11 +3,11 @@ ghost use Rattle.std.specs.Prelude.{◌≢◌, ◌^◌, ◌<◌, ◌≤◌, pos,
 ghost use Rattle.clk_ticket.specs.Time.{share_of};
 ghost use Rattle.clk_machine.specs.Limits.{IsInRange};
 ghost use Rattle.clk_machine.specs.Tickets.{tickets_of};
-ghost use Rattle.clk_worker.specs.Calling.{updates_in, Serves, IsOfOwner, MayMake, Makes};
+ghost use Rattle.clk_worker.specs.Calling.{seats_in, IsOver, updates_in, Serves, IsOfOwner, MayMake, Makes};
 ghost use Rattle.clk_worker.specs.Making.{script_of, SeatsServe, HasEnough, MakesAt};
 
 use crate::keep::{keep, keep_reading, keep_remote, keep_tick};
-use crate::own::{Own, Post, context, own_of};
+use crate::own::Post;
 use crate::shared::Shared;
 use clk_latch::{Epochs, Latch};
 use clk_local::{Ctx, IdleEvent, idle, local, tick};
@@ -16,23 +16,25 @@ use clk_num::List;
 use clk_remote::remote;
 use clk_trace::{Event, EventKind};
 
-/// Makes word `m` of the thread's script, and gives the seats back.
+/// Makes word `m` of the thread's script, in a context of the thread at any call.
+#[inline(always)]
 pub(crate) fn make_at(
+    ctx: &mut Ctx<'_, Latch>,
+    events: &mut List<Event>,
     shared: &Shared,
     post: &Post,
     m: u32,
-    own: Own,
-    events: &mut List<Event>,
-) -> Own
+)
     requires within { m < length (script_of shared.now post.now) }
-    requires serves { SeatsServe shared.now post.now (share_of own.time) own }
-    requires enough { HasEnough shared.now post.now m own events.old }
-    ensures { MakesAt shared.now post.now m own events.old result events.new }
+    requires context { IsOver shared.now post.now ctx.old }
+    requires serves { SeatsServe shared.now post.now (share_of ctx.old.time) (seats_in ctx.old) }
+    requires enough { HasEnough shared.now post.now m (seats_in ctx.old) events.old }
+    ensures context { IsOver shared.now post.now ctx.new }
+    ensures made { MakesAt shared.now post.now m (seats_in ctx.old) events.old (seats_in ctx.new) events.new }
 {
     let word = shared.machine.word(post.thread, m);
-    let mut ctx = context(shared, post, m, own);
-    make(&mut ctx, events, word);
-    own_of(ctx)
+    ctx.call = m;
+    make(ctx, events, word);
 }
 
 // One word of a script.

@@ -12,6 +12,7 @@ use clk_trace::{Event, EventKind};
 use clk_words::{Step, Why};
 
 /// Keeps one event.
+#[inline(always)]
 pub(crate) fn keep(events: &mut List<Event>, call: u32, kind: EventKind)
     requires room { 1 ≤ events.old.room }
     ensures { KeepsEvents call (kind ∷ []) events.old events.new }
@@ -20,6 +21,7 @@ pub(crate) fn keep(events: &mut List<Event>, call: u32, kind: EventKind)
 }
 
 // Keeps the event of a reading that made a step.
+#[inline(always)]
 fn keep_step(events: &mut List<Event>, call: u32, raw: &RawReading, step: &Step)
     requires room { 1 ≤ events.old.room }
     ensures { KeepsEvents call (kinds_of_step raw.now step.now) events.old events.new }
@@ -52,6 +54,7 @@ fn keep_stable(events: &mut List<Event>, call: u32, raw: &RawReading, value: i64
 }
 
 /// Keeps the event of a reading of the own clock.
+#[inline(always)]
 pub(crate) fn keep_reading(events: &mut List<Event>, call: u32, reading: &Reading)
     requires room { 1 ≤ events.old.room }
     ensures { KeepsEvents call (kinds_of_reading reading.now) events.old events.new }
@@ -99,6 +102,7 @@ pub(crate) fn keep_remote(events: &mut List<Event>, call: u32, asked: u32, event
 }
 
 /// Keeps the events of a tick.
+#[inline(always)]
 pub(crate) fn keep_tick(events: &mut List<Event>, call: u32, event: &TickEvent)
     requires room { 2 ≤ events.old.room }
     ensures { KeepsEvents call (kinds_of_tick event.now) events.old events.new }

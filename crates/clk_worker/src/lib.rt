@@ -19,8 +19,8 @@
 //!
 //! It promises no order between the workers of a run beyond the history of the clock words.
 //!
-//! How it works: a word takes the seats out of the worker, puts them with the shared things into the context of a call,
-//! keeps the call's answer as events, and puts the seats back.
+//! How it works: a run of words takes the seats out of the worker and puts them with the shared things into one context.
+//! Each word makes its call there, and keeps the call's answer as events. After the last one the seats are put back.
 #![tactic(auto)]
 
 mod calls;

@@ -1,9 +1,9 @@
 //! One thread of a run.
-ghost use Rattle.std.specs.Prelude.{◌≡◌, ◌+◌, ◌<◌, length, Some};
-ghost use Rattle.clk_worker.specs.Making.{script_of, Begins, BelongsTo, WentOn, MakesWord};
+ghost use Rattle.std.specs.Prelude.{◌≡◌, ◌+◌, ◌-◌, ◌<◌, ◌≤◌, length, Some};
+ghost use Rattle.clk_worker.specs.Making.{script_of, Begins, BelongsTo, WentOn, MakesWord, MakesWords};
 
 use crate::calls::make_at;
-use crate::own::{Own, Post};
+use crate::own::{Own, Post, context, own_of};
 use crate::shared::Shared;
 use clk_machine::Gate;
 use clk_num::List;
@@ -18,7 +18,7 @@ pub struct Worker {
     post: Post,
     // The number of its next word.
     next: u32,
-    // The seats, which a word takes out and puts back.
+    // The seats, which a run of words takes out and puts back.
     own: Option<Own>,
     events: List<Event>,
     // The reading of the last event that shows one, in ns, and 0 before there is one.
@@ -76,8 +76,7 @@ impl Worker {
         requires within { m < length (script_of shared.now self.old.post) }
         ensures { MakesWord shared.now m self.old self.new }
     {
-        gate.pass(self.post.thread, m, self.last);
-        self.make(shared, m);
+        self.make_to(shared, m + 1, gate);
     }
 
     /// Makes all words that are left, each as `word` does.
@@ -86,9 +85,8 @@ impl Worker {
         ensures next { self.new.next ≡ length (script_of shared.now self.old.post) }
         ensures went { WentOn shared.now self.old self.new }
     {
-        for m in self.next..shared.machine.words(self.post.thread) {
-            self.word(shared, m, gate);
-        }
+        let end = shared.machine.words(self.post.thread);
+        self.make_to(shared, end, gate);
     }
 
     /// Takes the worker apart: its seats, and its events.
@@ -99,18 +97,25 @@ impl Worker {
         (self.own.unwrap(), self.events)
     }
 
-    // Word `m`, once it has passed the gate.
-    fn make(&mut self, shared: &Shared, m: u32)
+    // Makes the words before number `end`, each once it has passed the gate.
+    fn make_to<G: Gate>(&mut self, shared: &Shared, end: u32, gate: &G)
         requires shared { BelongsTo shared.now self.old }
-        requires next { m ≡ self.old.next }
-        requires within { m < length (script_of shared.now self.old.post) }
-        ensures { MakesWord shared.now m self.old self.new }
+        requires next { self.old.next ≤ end }
+        requires within { end ≤ length (script_of shared.now self.old.post) }
+        ensures next { self.new.next ≡ end }
+        ensures made { MakesWords (end - self.old.next) shared.now self.old self.new }
     {
         let own = self.own.take().unwrap();
-        let own = make_at(shared, &self.post, m, own, &mut self.events);
-        self.own = Some(own);
-        self.next = m + 1;
-        self.last = last_shown(&self.events, self.last);
+        let mut ctx = context(shared, &self.post, self.next, own);
+        let mut last = self.last;
+        for m in self.next..end {
+            gate.pass(self.post.thread, m, last);
+            make_at(&mut ctx, &mut self.events, shared, &self.post, m);
+            last = last_shown(&self.events, last);
+        }
+        self.own = Some(own_of(ctx));
+        self.next = end;
+        self.last = last;
     }
 }
 

@@ -8,7 +8,7 @@ ghost use Rattle.clk_machine.specs.Records.{record_zero, above_base, AreRecords}
 ghost use Rattle.clk_words.specs.Held.{place_of};
 ghost use Rattle.clk_words.specs.Histories.{opens_at};
 ghost use Rattle.clk_words.specs.Kinds.{cpu_of};
-ghost use Rattle.clk_words.specs.Knowing.{IsReading};
+ghost use Rattle.clk_words.specs.Knowing.{IsReadingKind};
 ghost use Rattle.clk_local.specs.Context.{IsUsable};
 
 use crate::tests::fixtures::{Own, Shared, hire, machine, raise, reading, stand, step, zero_of};
@@ -67,7 +67,7 @@ fn run_script<E: Epochs>(
     twice: bool,
 ) -> (Option<Published>, Published, Reading)
     requires own { place_of own.seat ≡ shared.now.words }
-    requires reading { IsReading own.seat.view.kind }
+    requires reading { IsReadingKind own.seat.view.kind }
     requires cpu { cpu_of own.seat.view.kind ≡ 0 }
     requires machine { cpu_count shared.now.machine ≡ 1 }
     requires tick { shared.now.words.start.tick ≡ shared.now.machine.tick }

@@ -11,7 +11,7 @@ ghost use Rattle.clk_latch.specs.Calls.{IsRecordZero};
 ghost use Rattle.clk_words.specs.Held.{place_of};
 ghost use Rattle.clk_words.specs.Histories.{opens_at};
 ghost use Rattle.clk_words.specs.Kinds.{cpu_of};
-ghost use Rattle.clk_words.specs.Knowing.{IsReading, MaySplit, MayDemote, numbers_of};
+ghost use Rattle.clk_words.specs.Knowing.{IsReadingKind, MaySplit, MayDemote, numbers_of};
 ghost use Rattle.clk_words.specs.Views.{first_view, giver_view, given_view};
 ghost use Rattle.clk_local.specs.Context.{BeginsAtBase, IsUsable};
 
@@ -226,7 +226,7 @@ pub fn hire(shared: &Shared, first: &mut Own, kind: SeatKind, left: u64) -> Own
 // The context of a thread.
 pub fn context<'a>(shared: &'a Shared, own: Own, sched_offset: i64) -> Ctx<'a, Latch>
     requires own { place_of own.seat ≡ shared.now.words }
-    requires reading { IsReading own.seat.view.kind }
+    requires reading { IsReadingKind own.seat.view.kind }
     requires cpu { cpu_of own.seat.view.kind ≡ 0 }
     requires cpus { shared.now.words.start.cpus ≡ 1 }
     requires machine { cpu_count shared.now.machine ≡ 1 }

@@ -7,7 +7,7 @@ ghost use Rattle.clk_machine.specs.Records.{above_base};
 ghost use Rattle.clk_words.specs.Held.{place_of};
 ghost use Rattle.clk_words.specs.Histories.{opens_at};
 ghost use Rattle.clk_words.specs.Kinds.{cpu_of};
-ghost use Rattle.clk_words.specs.Knowing.{HasFoundPerCpu, IsReading, numbers_of};
+ghost use Rattle.clk_words.specs.Knowing.{HasFoundPerCpu, IsReadingKind, numbers_of};
 ghost use Rattle.clk_local.specs.Context.{BeginsAtBase, IsUsable, MayStamp, Spends};
 
 use crate::tests::fixtures::{
@@ -96,7 +96,7 @@ fn look(ctx: &mut Ctx<'_, Latch>, call: u32, log: &mut Vec<Step>)
 
 fn run_owner(shared: &Shared, runner: Runner) -> Runner
     requires own { place_of runner.own.seat ≡ shared.now.words }
-    requires reading { IsReading runner.own.seat.view.kind }
+    requires reading { IsReadingKind runner.own.seat.view.kind }
     requires cpu { cpu_of runner.own.seat.view.kind ≡ 0 }
     requires cpus { (shared.now.words.start.cpus ≡ 1) × (cpu_count shared.now.machine ≡ 1) }
     requires tick { shared.now.words.start.tick ≡ shared.now.machine.tick }
@@ -125,7 +125,7 @@ fn run_owner(shared: &Shared, runner: Runner) -> Runner
 
 fn run_reader(shared: &Shared, runner: Runner) -> Runner
     requires own { place_of runner.own.seat ≡ shared.now.words }
-    requires reading { IsReading runner.own.seat.view.kind }
+    requires reading { IsReadingKind runner.own.seat.view.kind }
     requires found { HasFoundPerCpu runner.own.seat.view }
     requires cpu { cpu_of runner.own.seat.view.kind ≡ 0 }
     requires cpus { (shared.now.words.start.cpus ≡ 1) × (cpu_count shared.now.machine ≡ 1) }
@@ -153,7 +153,7 @@ fn run_reader(shared: &Shared, runner: Runner) -> Runner
 
 fn two<R: Threads + Sync>(rt: &R, shared: &Shared, a: Runner, b: Runner) -> (Runner, Runner)
     requires own { (place_of a.own.seat ≡ shared.now.words) × (place_of b.own.seat ≡ shared.now.words) }
-    requires reading { IsReading a.own.seat.view.kind × IsReading b.own.seat.view.kind }
+    requires reading { IsReadingKind a.own.seat.view.kind × IsReadingKind b.own.seat.view.kind }
     requires found { HasFoundPerCpu a.own.seat.view × HasFoundPerCpu b.own.seat.view }
     requires cpu { (cpu_of a.own.seat.view.kind ≡ 0) × (cpu_of b.own.seat.view.kind ≡ 0) }
     requires cpus { (shared.now.words.start.cpus ≡ 1) × (cpu_count shared.now.machine ≡ 1) }

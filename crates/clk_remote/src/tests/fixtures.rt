@@ -11,7 +11,7 @@ ghost use Rattle.clk_words.specs.declared.kind.SeatKind.TheVariants.{Owner};
 ghost use Rattle.clk_words.specs.Held.{place_of};
 ghost use Rattle.clk_words.specs.Histories.{opens_at};
 ghost use Rattle.clk_words.specs.Kinds.{cpu_of};
-ghost use Rattle.clk_words.specs.Knowing.{IsReading, MaySplit, numbers_of};
+ghost use Rattle.clk_words.specs.Knowing.{IsReadingKind, MaySplit, numbers_of};
 ghost use Rattle.clk_words.specs.Views.{first_view, giver_view, given_view};
 ghost use Rattle.clk_local.specs.Context.{BeginsAtBase, IsUsable};
 
@@ -193,7 +193,7 @@ pub fn context<'a>(
     cpu: u32,
 ) -> Ctx<'a, Latch>
     requires own { place_of own.seat ≡ shared.now.words }
-    requires reading { IsReading own.seat.view.kind }
+    requires reading { IsReadingKind own.seat.view.kind }
     requires cpu { (cpu_of own.seat.view.kind ≡ cpu) × (cpu < 2) }
     requires machine { cpu_count shared.now.machine ≡ 2 }
     requires tick { shared.now.words.start.tick ≡ shared.now.machine.tick }

@@ -7,7 +7,7 @@ ghost use Rattle.clk_machine.specs.Records.{above_base};
 ghost use Rattle.clk_words.specs.Held.{place_of};
 ghost use Rattle.clk_words.specs.Histories.{opens_at};
 ghost use Rattle.clk_words.specs.Kinds.{cpu_of};
-ghost use Rattle.clk_words.specs.Knowing.{IsReading, numbers_of};
+ghost use Rattle.clk_words.specs.Knowing.{IsReadingKind, numbers_of};
 ghost use Rattle.clk_local.specs.Context.{BeginsAtBase};
 
 use crate::RemoteEvent;
@@ -68,7 +68,7 @@ fn note(log: &mut Vec<RemoteEvent>, event: RemoteEvent) {
 
 fn run(shared: &Shared, runner: Runner) -> (Own, Vec<RemoteEvent>)
     requires own { place_of runner.own.seat ≡ shared.now.words }
-    requires reading { IsReading runner.own.seat.view.kind }
+    requires reading { IsReadingKind runner.own.seat.view.kind }
     requires cpu { (cpu_of runner.own.seat.view.kind ≡ runner.cpu) × (runner.cpu < 2) }
     requires other { (runner.other < 2) × (runner.other ≢ runner.cpu) }
     requires cpus { (shared.now.words.start.cpus ≡ 2) × (cpu_count shared.now.machine ≡ 2) }

@@ -4,7 +4,7 @@ ghost use Rattle.clk_num.specs.Range.{IsNear};
 ghost use Rattle.clk_words.specs.Kinds.{cpu_of};
 ghost use Rattle.clk_words.specs.Histories.{opens_at};
 ghost use Rattle.clk_words.specs.Bounds.{opens_of, IsGtod, IsRaw, IsOpening};
-ghost use Rattle.clk_words.specs.Knowing.{HasFoundPerCpu, HasLoaded, IsOwner, IsReading, IsTrusted, StampsAreWhole, numbers_of};
+ghost use Rattle.clk_words.specs.Knowing.{HasFoundPerCpu, HasLoaded, IsOwner, IsReadingKind, IsTrusted, StampsAreWhole, numbers_of};
 ghost use Rattle.clk_words.specs.Held.{place_of};
 ghost use Rattle.clk_words.specs.Calls.{KeepsSeat};
 
@@ -53,7 +53,7 @@ pub fn after(start: &Opening, ns: i64) -> i64
 pub fn raw_half(words: &Words, seat: &mut Seat) -> i64
     requires own { place_of seat.old ≡ words.now }
     requires found { HasFoundPerCpu seat.old.view }
-    requires reading { IsReading seat.old.view.kind }
+    requires reading { IsReadingKind seat.old.view.kind }
     ensures own { place_of seat.new ≡ words.now }
     ensures kept { KeepsSeat seat.old.view seat.new.view }
     ensures loaded { HasLoaded seat.new.view (Name.Raw (cpu_of seat.new.view.kind)) result }
@@ -66,7 +66,7 @@ pub fn raw_half(words: &Words, seat: &mut Seat) -> i64
 pub fn other_half(words: &Words, seat: &mut Seat, raw: i64, tick_raw: i64) -> Why
     requires own { place_of seat.old ≡ words.now }
     requires found { HasFoundPerCpu seat.old.view }
-    requires reading { IsReading seat.old.view.kind }
+    requires reading { IsReadingKind seat.old.view.kind }
     requires raw { IsRaw (opens_at words.now.start) raw }
     requires loaded { HasLoaded seat.old.view (Name.Raw (cpu_of seat.old.view.kind)) tick_raw }
     ensures own { place_of seat.new ≡ words.now }
@@ -88,7 +88,7 @@ pub fn other_half(words: &Words, seat: &mut Seat, raw: i64, tick_raw: i64) -> Wh
 pub fn pair(words: &Words, seat: &mut Seat, raw: i64) -> Why
     requires own { place_of seat.old ≡ words.now }
     requires found { HasFoundPerCpu seat.old.view }
-    requires reading { IsReading seat.old.view.kind }
+    requires reading { IsReadingKind seat.old.view.kind }
     requires raw { IsRaw (opens_at words.now.start) raw }
     ensures own { place_of seat.new ≡ words.now }
     ensures kept { KeepsSeat seat.old.view seat.new.view }
@@ -119,7 +119,7 @@ pub fn stamp(words: &Words, seat: &mut Seat, gtod: i64, raw: i64)
 pub fn local(words: &Words, seat: &mut Seat, call: u32, raw: i64) -> Step
     requires own { place_of seat.old ≡ words.now }
     requires found { HasFoundPerCpu seat.old.view }
-    requires reading { IsReading seat.old.view.kind }
+    requires reading { IsReadingKind seat.old.view.kind }
     requires raw { IsRaw (opens_at words.now.start) raw }
     ensures own { place_of seat.new ≡ words.now }
     ensures kept { KeepsSeat seat.old.view seat.new.view }

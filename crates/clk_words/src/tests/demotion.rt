@@ -4,7 +4,7 @@ ghost use Rattle.clk_num.specs.Range.{IsNear};
 ghost use Rattle.clk_words.specs.Histories.{opens_at};
 ghost use Rattle.clk_words.specs.Bounds.{opens_of, IsGtod, IsRaw, IsOffset, IsOpening, IsLiftValue};
 ghost use Rattle.clk_words.specs.Parts.{gtod_of, raw_of};
-ghost use Rattle.clk_words.specs.Knowing.{MayDemote, IsReading, HasCloned, HasLifted, numbers_of};
+ghost use Rattle.clk_words.specs.Knowing.{MayDemote, IsReadingKind, HasCloned, HasLifted, numbers_of};
 ghost use Rattle.clk_words.specs.Told.{pair_cloned};
 ghost use Rattle.clk_words.specs.Held.{place_of};
 
@@ -43,7 +43,7 @@ fn copied(words: &Words, seat: &mut Seat, w: u32, gtod: i64, raw: i64)
 // A reading where the mode is per-CPU, and none while it is stable.
 fn read(words: &Words, seat: &mut Seat, call: u32, raw: i64) -> Option<Step>
     requires own { place_of seat.old ≡ words.now }
-    requires reading { IsReading seat.old.view.kind }
+    requires reading { IsReadingKind seat.old.view.kind }
     requires raw { IsRaw (opens_at words.now.start) raw }
     ensures own { place_of seat.new ≡ words.now }
     ensures kind { seat.new.view.kind ≡ seat.old.view.kind }
@@ -118,7 +118,7 @@ fn demote(words: &Words, mut seat: Seat, start: Opening) -> (Seat, (Step, Step))
 // A reading, which is noted if it is made.
 fn read_into(words: &Words, seat: &mut Seat, log: &mut Vec<Step>, call: u32, raw: i64)
     requires own { place_of seat.old ≡ words.now }
-    requires reading { IsReading seat.old.view.kind }
+    requires reading { IsReadingKind seat.old.view.kind }
     requires raw { IsRaw (opens_at words.now.start) raw }
     ensures own { place_of seat.new ≡ words.now }
     ensures kind { seat.new.view.kind ≡ seat.old.view.kind }
@@ -131,7 +131,7 @@ fn read_into(words: &Words, seat: &mut Seat, log: &mut Vec<Step>, call: u32, raw
 
 fn read_on(words: &Words, mut runner: Runner) -> Runner
     requires own { place_of runner.seat ≡ words.now }
-    requires reading { IsReading runner.seat.view.kind }
+    requires reading { IsReadingKind runner.seat.view.kind }
     requires start { (runner.start ≡ words.now.start.opening) × (runner.start.tick_raw ≡ opens_of runner.start) }
     ensures own { place_of result.seat ≡ words.now }
     ensures numbers { numbers_of result.seat.view ≡ numbers_of runner.seat.view }
@@ -155,7 +155,7 @@ fn demote_under<R: Threads + Sync>(
     requires may { MayDemote watch.view }
     requires cpus { words.now.start.cpus ≡ 2 }
     requires offset { IsOffset (opens_of start) start.offset }
-    requires reading { IsReading a.seat.view.kind }
+    requires reading { IsReadingKind a.seat.view.kind }
     requires start { (start ≡ words.now.start.opening) × (start.tick_raw ≡ opens_of start) }
     requires start_a { (a.start ≡ words.now.start.opening) × (a.start.tick_raw ≡ opens_of a.start) }
     ensures own { (place_of result.0.0 ≡ words.now) × (place_of result.1.seat ≡ words.now) }
@@ -171,7 +171,7 @@ fn demote_under<R: Threads + Sync>(
 
 fn read_both<R: Threads + Sync>(rt: &R, words: &Words, a: Runner, b: Runner) -> (Runner, Runner)
     requires own { (place_of a.seat ≡ words.now) × (place_of b.seat ≡ words.now) }
-    requires reading { IsReading a.seat.view.kind × IsReading b.seat.view.kind }
+    requires reading { IsReadingKind a.seat.view.kind × IsReadingKind b.seat.view.kind }
     requires start_a { (a.start ≡ words.now.start.opening) × (a.start.tick_raw ≡ opens_of a.start) }
     requires start_b { (b.start ≡ words.now.start.opening) × (b.start.tick_raw ≡ opens_of b.start) }
     ensures own { (place_of result.0.seat ≡ words.now) × (place_of result.1.seat ≡ words.now) }

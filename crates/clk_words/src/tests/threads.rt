@@ -3,7 +3,7 @@ ghost use Rattle.std.specs.Prelude.{◌≡◌, ◌+◌, ◌^◌, ◌<◌, [], �
 ghost use Rattle.clk_words.specs.Kinds.{cpu_of};
 ghost use Rattle.clk_words.specs.Histories.{opens_at};
 ghost use Rattle.clk_words.specs.Bounds.{opens_of, IsGtod, IsRaw};
-ghost use Rattle.clk_words.specs.Knowing.{HasFoundPerCpu, HasLoaded, IsOwner, IsReading, MaySplit, StampsAreWhole, numbers_of};
+ghost use Rattle.clk_words.specs.Knowing.{HasFoundPerCpu, HasLoaded, IsOwner, IsReadingKind, MaySplit, StampsAreWhole, numbers_of};
 ghost use Rattle.clk_words.specs.Views.{giver_view, given_view};
 ghost use Rattle.clk_words.specs.Held.{place_of};
 ghost use Rattle.clk_words.specs.Calls.{KeepsSeat};
@@ -87,7 +87,7 @@ pub fn note(log: &mut Vec<Step>, step: Step) {
 fn run(words: &Words, mut runner: Runner) -> Runner
     requires own { place_of runner.seat ≡ words.now }
     requires found { HasFoundPerCpu runner.seat.view }
-    requires reading { IsReading runner.seat.view.kind }
+    requires reading { IsReadingKind runner.seat.view.kind }
     requires other { runner.other < words.now.start.cpus }
     requires start { (runner.start ≡ words.now.start.opening) × (runner.start.tick_raw ≡ opens_of runner.start) }
     requires turn { IsTrue runner.stamps → IsOwner runner.seat.view × StampsAreWhole runner.seat.view }
@@ -111,7 +111,7 @@ fn run(words: &Words, mut runner: Runner) -> Runner
 fn two<R: Threads + Sync>(rt: &R, words: &Words, a: Runner, b: Runner) -> (Runner, Runner)
     requires own { (place_of a.seat ≡ words.now) × (place_of b.seat ≡ words.now) }
     requires found { HasFoundPerCpu a.seat.view × HasFoundPerCpu b.seat.view }
-    requires reading { IsReading a.seat.view.kind × IsReading b.seat.view.kind }
+    requires reading { IsReadingKind a.seat.view.kind × IsReadingKind b.seat.view.kind }
     requires other { (a.other < words.now.start.cpus) × (b.other < words.now.start.cpus) }
     requires start_a { (a.start ≡ words.now.start.opening) × (a.start.tick_raw ≡ opens_of a.start) }
     requires start_b { (b.start ≡ words.now.start.opening) × (b.start.tick_raw ≡ opens_of b.start) }

@@ -3,7 +3,7 @@ use Rattle.clk_words.specs.declared.view.View.{View}
 use Rattle.clk_words.specs.Held.{Place}
 use Rattle.clk_words.proofs.Demoting.{HasStored}
 use Rattle.clk_demote.proofs.Copying.{pairs_are}
-use Rattle.clk_demote.proofs.Keeping.{still_unlifted}
+use Rattle.clk_demote.proofs.ContextKept.{still_unlifted}
 use Rattle.clk_demote.proofs.calls.store_pairs.Goals as goal
 
 pub returns-clause-cloned : goal.returns-clause-cloned

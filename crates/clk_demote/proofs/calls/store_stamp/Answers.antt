@@ -9,7 +9,7 @@ use Rattle.clk_words.specs.Histories.{opens_at}
 use Rattle.clk_words.specs.Parts.{raw_of}
 use Rattle.clk_words.specs.Told.{pair_cloned}
 use Rattle.clk_demote.specs.Stamping.{ReadsAt}
-use Rattle.clk_demote.proofs.Keeping.{seats_count, raw_here, still_begins, still_usable}
+use Rattle.clk_demote.proofs.ContextKept.{seats_count, raw_here, still_begins, still_usable}
 use Rattle.clk_demote.proofs.calls.store_stamp.Goals as goal
 
 pub clone_raw-requires-clause-bound : goal.clone_raw-requires-clause-bound

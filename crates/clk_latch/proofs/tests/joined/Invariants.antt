@@ -3,10 +3,10 @@ use Rattle.clk_ticket.specs.Time.{share_of}
 use Rattle.clk_latch.specs.declared.tests.TheConstants.{UPDATES, READS}
 use Rattle.clk_latch.proofs.tests.joined.Given as goal
 
--- the owner has the shares of the readers so far
+-- the seat has the shares of the readers so far
 abbrev pub invariant-loop-reader : goal.invariant-loop-reader
 invariant-loop-reader g l = record {
-  own : g.E.Epochs.fits l.epochs l.owner.seat;
-  table : l.owner.time.table ≡ l.tickets.table;
-  share : share_of l.owner.time ≡ UPDATES + READS * length l.yielded;
+  own : g.E.Epochs.fits l.epochs l.seat;
+  table : l.time.table ≡ l.tickets.table;
+  share : share_of l.time ≡ UPDATES + READS * length l.yielded;
 }

@@ -3,7 +3,7 @@ use Rattle.clk_words.specs.Held.{Place}
 use Rattle.clk_words.proofs.Loading.{kept_both, kept_makes}
 use Rattle.clk_local.proofs.Raising.{raw_near, still_base, own_raise}
 use Rattle.clk_local.proofs.Showing.{shows_raised, owner_raised}
-use Rattle.clk_local.proofs.Keeping.{still_usable, found_still, role_kept}
+use Rattle.clk_local.proofs.ContextKept.{still_usable, found_still, role_kept}
 use Rattle.clk_local.proofs.Spending.{one_ticket}
 use Rattle.clk_local.proofs.readings.local_raised.Goals as goal
 

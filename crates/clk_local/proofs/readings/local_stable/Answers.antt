@@ -1,7 +1,7 @@
 use Rattle.std.proofs.Common.{refl, rules, FitsSigned, w64}
 use Rattle.clk_num.proofs.Heights.{sum_is}
 use Rattle.clk_local.proofs.Raising.{still_base}
-use Rattle.clk_local.proofs.Keeping.{role_same, still_usable}
+use Rattle.clk_local.proofs.ContextKept.{role_same, still_usable}
 use Rattle.clk_local.proofs.Spending.{one_ticket}
 use Rattle.clk_local.proofs.readings.local_stable.Goals as goal
 

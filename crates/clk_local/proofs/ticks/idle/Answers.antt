@@ -1,4 +1,4 @@
-use Rattle.clk_local.proofs.Keeping.{keeps_both}
+use Rattle.clk_local.proofs.ContextKept.{keeps_both}
 use Rattle.clk_local.proofs.Showing.{shows_idle}
 use Rattle.clk_local.proofs.Spending.{then_spends}
 use Rattle.clk_local.proofs.ticks.idle.Goals as goal

@@ -5,7 +5,7 @@ use Rattle.clk_words.specs.Held.{Place}
 use Rattle.clk_words.specs.Histories.{opens_at}
 use Rattle.clk_words.proofs.Loading.{kept_both, kept_stamped}
 use Rattle.clk_local.proofs.Raising.{raw_near, still_base}
-use Rattle.clk_local.proofs.Keeping.{still_usable, role_kept}
+use Rattle.clk_local.proofs.ContextKept.{still_usable, role_kept}
 use Rattle.clk_local.proofs.Spending.{one_ticket, then_spends}
 use Rattle.clk_local.proofs.ticks.store_stamp.Goals as goal
 

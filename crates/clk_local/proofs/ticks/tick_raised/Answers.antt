@@ -1,5 +1,5 @@
 use Rattle.std.proofs.Common.{rules, to_z-of_z, FitsSigned, w64}
-use Rattle.clk_local.proofs.Keeping.{keeps_both}
+use Rattle.clk_local.proofs.ContextKept.{keeps_both}
 use Rattle.clk_local.proofs.Showing.{shows_ticked}
 use Rattle.clk_local.proofs.Spending.{then_spends}
 use Rattle.clk_local.proofs.ticks.tick_raised.Goals as goal

@@ -1,7 +1,7 @@
 use Rattle.std.proofs.Common.{◌≡◌, ◌∙◌, ap}
 use Rattle.clk_machine.specs.Plan.{plan_of}
 use Rattle.clk_machine.specs.Time.{sched_rate, reference_rate}
-use Rattle.clk_machine.proofs.Keeping.{kept, same_plan}
+use Rattle.clk_machine.proofs.PartsKept.{kept, same_plan}
 use Rattle.clk_machine.proofs.machine.machine_of.Goals as goal
 
 pub invariant_of-result : goal.invariant_of-result

@@ -12,7 +12,7 @@ loop-word-preserved c =
     let room = c.push.ensures.room in
     let before = c.loop-word.invariant.room in
     let made = c.in_ok-with_room.ensures in
-    let list = is_empty c.in_ok-with_room.field-0 (steps_room m word) made.items (made.room ∙ c.steps_on-steps.ensures) in
+    let list = is_empty c.in_ok-with_room.field-0 (steps_room m word) made.items (made.room ∙ c.most_steps_on-steps.ensures) in
     record {
       items =
           c.push.ensures.items ∙ ap (λ (xs : List (Listed HistoryStep)). xs ++ c.in_ok-with_room.field-0 ∷ []) c.loop-word.invariant.items

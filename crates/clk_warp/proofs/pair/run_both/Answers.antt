@@ -3,8 +3,8 @@ use mir.Syntax.{named}
 use denote.Param.{param}
 use denote.Param.Send.{sendable, shr_send}
 use denote.Ref.{ShrRef}
-use Rattle.clk_machine.specs.contracts.machine.Machine as Machine
-use Rattle.clk_ticket.specs.contracts.table.TicketTable as TicketTable
+use Rattle.clk_machine.specs.contracts.machine.Machine
+use Rattle.clk_ticket.specs.contracts.table.TicketTable
 use Rattle.clk_warp.specs.contracts.lock.TurnLock as Lock
 use Rattle.clk_warp.specs.contracts.seat.TurnSeat as Seat
 use Rattle.clk_warp.proofs.Pairing.{finished}

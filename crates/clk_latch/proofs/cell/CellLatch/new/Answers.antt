@@ -1,6 +1,6 @@
 use Rattle.std.proofs.Common.{rules}
 use Rattle.clk_latch.proofs.Updating.{zero_small}
-use Rattle.clk_latch.proofs.CellKeeping.{opens}
+use Rattle.clk_latch.proofs.CellSteps.{opens}
 use Rattle.clk_latch.proofs.CellReading.{opened_seat}
 use Rattle.clk_latch.proofs.cell.CellLatch.new.Goals as goal
 

@@ -4,9 +4,9 @@ use Rattle.std.proofs.lemmas.Int.{to_z-of_z}
 use Rattle.crossbeam_utils.specs.Seq.{cell_view}
 use Rattle.clk_num.specs.Wrapping.{IsValue, IsBitsOf, bits_of}
 use Rattle.clk_num.proofs.Heights.{bits_are}
-use Rattle.clk_latch.specs.CellKept.{MayStore, knows_stored}
+use Rattle.clk_latch.specs.CellRule.{MayStore, knows_stored}
 use Rattle.clk_latch.proofs.Updating.{zero_small}
-use Rattle.clk_latch.proofs.CellKeeping.{may_open, may_picked, picked}
+use Rattle.clk_latch.proofs.CellSteps.{may_open, may_picked, picked}
 use Rattle.clk_latch.proofs.cell.CellLatch.open.Goals as goal
 
 pub store-requires-clause-may : goal.store-requires-clause-may

@@ -4,7 +4,7 @@ use Rattle.std.proofs.lemmas.Int.{to_z-of_z}
 use Rattle.crossbeam_utils.specs.Seq.{cell_view}
 use Rattle.clk_num.specs.Wrapping.{IsValue, IsBitsOf, bits_of}
 use Rattle.clk_num.proofs.Heights.{bits_are}
-use Rattle.clk_latch.proofs.CellKeeping.{may_follow, follows, may_picked, picked}
+use Rattle.clk_latch.proofs.CellSteps.{may_follow, follows, may_picked, picked}
 use Rattle.clk_latch.proofs.cell.CellLatch.publish.Goals as goal
 
 pub store-requires-clause-may : goal.store-requires-clause-may

@@ -1,5 +1,5 @@
 use Rattle.std.proofs.Common.{rules}
-use Rattle.clk_latch.proofs.CellKeeping.{stores}
+use Rattle.clk_latch.proofs.CellSteps.{stores}
 use Rattle.clk_latch.proofs.cell.CellLatch.store.Goals as goal
 
 pub swap_as-requires : goal.swap_as-requires

@@ -5,10 +5,10 @@ use Rattle.clk_machine.specs.declared.reading.Published.{Published}
 use Rattle.clk_latch.specs.declared.rule.Knows.{Knows}
 use Rattle.clk_latch.specs.Epoch.{Epoch, Place}
 use Rattle.clk_latch.specs.Calls.{Joins}
-use Rattle.clk_latch.specs.Seated.{epoch_of}
-use Rattle.clk_latch.specs.CellKept.{IsCellSeated}
-use Rattle.clk_latch.specs.Kept.{knows_both}
-use Rattle.clk_latch.proofs.CellKeeping.{hands, joins, tells}
+use Rattle.clk_latch.specs.LatchSeats.{epoch_of}
+use Rattle.clk_latch.specs.CellRule.{IsCellSeated}
+use Rattle.clk_latch.specs.LatchRule.{knows_both}
+use Rattle.clk_latch.proofs.CellSteps.{hands, joins, tells}
 use Rattle.clk_latch.proofs.CellReading.{joined_seat, or_first, or_second}
 use Rattle.clk_latch.proofs.Seating.{joined}
 use Rattle.clk_latch.proofs.cell.CellLatchEpochs.join.Goals as goal

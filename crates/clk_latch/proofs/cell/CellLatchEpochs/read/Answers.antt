@@ -7,14 +7,14 @@ use Rattle.clk_num.specs.Wrapping.{above}
 use Rattle.clk_machine.specs.declared.reading.RawReading.{RawReading}
 use Rattle.clk_latch.specs.Epoch.{Place}
 use Rattle.clk_latch.specs.Calls.{Reads}
-use Rattle.clk_latch.specs.Seated.{epoch_of}
+use Rattle.clk_latch.specs.LatchSeats.{epoch_of}
 use Rattle.clk_latch.proofs.Converting.{sum_stays}
 use Rattle.clk_latch.proofs.Reading.{reads}
 use Rattle.clk_latch.proofs.CellReading.{still_seated}
 use Rattle.clk_latch.proofs.cell.CellLatchEpochs.read.Goals as goal
 
 pub invariant_of-seat : goal.invariant_of-seat
-invariant_of-seat g c = still_seated _ _ _ c.current-epoch.ensures.went c.seat.invariant
+invariant_of-seat g c = still_seated _ _ _ _ c.current-epoch.ensures.went c.seat.invariant
 
 pub returns-clause-reads : goal.returns-clause-reads
 returns-clause-reads g c =

@@ -1,8 +1,8 @@
 use Rattle.std.proofs.Common.{rules, sym, subst}
 use Rattle.crossbeam_utils.specs.Seq.{cell_view}
-use Rattle.clk_latch.proofs.CellKeeping.{splits}
+use Rattle.clk_latch.proofs.CellSteps.{splits}
 use Rattle.clk_latch.proofs.CellReading.{reader_seat}
-use Rattle.clk_latch.specs.CellKept.{IsCellSeated}
+use Rattle.clk_latch.specs.CellRule.{IsCellSeated}
 use Rattle.clk_latch.proofs.cell.CellLatchEpochs.split.Goals as goal
 
 pub split_pass-requires : goal.split_pass-requires

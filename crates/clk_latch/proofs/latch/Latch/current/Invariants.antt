@@ -2,10 +2,14 @@ use Rattle.std.proofs.Common.{◌≡◌, ◌-◌}
 use Rattle.clk_latch.specs.Turns.{Went}
 use Rattle.clk_latch.proofs.latch.Latch.current.Given as goal
 
+-- a turn is told the ticket that is given
+abbrev pub ghosts-begin : goal.ghosts-begin
+ghosts-begin a = record { ticket_is = a.ticket }
+
 abbrev pub invariant-loop-turn : goal.invariant-loop-turn
 invariant-loop-turn l = record {
   own : l.seat.table_id ≡ l.initial.seat.table_id;
-  went : Went l.initial.seat.me l.seat.me;
+  went : Went l.ticket l.initial.seat.me l.seat.me;
 }
 
 -- each turn but the last saw a greater sequence at its end

@@ -5,9 +5,9 @@ use Rattle.atomic_table.specs.Table.{Me}
 use Rattle.clk_num.specs.Wrapping.{IsValue, IsBitsOf, bits_of}
 use Rattle.clk_num.proofs.Heights.{bits_are}
 use Rattle.clk_latch.specs.declared.rule.Knows.{Knows}
-use Rattle.clk_latch.specs.Kept.{knows_first}
-use Rattle.clk_latch.specs.Seated.{IsOwner}
-use Rattle.clk_latch.proofs.Keeping.{true_not_false}
+use Rattle.clk_latch.specs.LatchRule.{knows_first}
+use Rattle.clk_latch.specs.LatchSeats.{IsOwner}
+use Rattle.clk_latch.proofs.LatchSteps.{true_not_false}
 use Rattle.clk_latch.proofs.Seating.{starts}
 use Rattle.clk_latch.proofs.Updating.{zero_small, first_owner}
 use Rattle.clk_latch.proofs.latch.Latch.new.Goals as goal

@@ -1,5 +1,5 @@
 use Rattle.std.proofs.Common.{rules}
-use Rattle.clk_latch.proofs.Keeping.{settles}
+use Rattle.clk_latch.proofs.LatchSteps.{settles}
 use Rattle.clk_latch.proofs.latch.Latch.settle.Goals as goal
 
 pub fetch_add-requires : goal.fetch_add-requires

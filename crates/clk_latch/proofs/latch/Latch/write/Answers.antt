@@ -1,5 +1,5 @@
 use Rattle.std.proofs.Common.{rules}
-use Rattle.clk_latch.proofs.Keeping.{puts}
+use Rattle.clk_latch.proofs.LatchSteps.{puts}
 use Rattle.clk_latch.proofs.latch.Latch.write.Goals as goal
 
 pub store-requires : goal.store-requires

@@ -3,9 +3,9 @@ use Rattle.atomic_table.specs.Table.{Me}
 use Rattle.clk_latch.specs.declared.rule.Knows.{Knows}
 use Rattle.clk_latch.specs.Epoch.{Epoch, Place}
 use Rattle.clk_latch.specs.Calls.{Joins}
-use Rattle.clk_latch.specs.Seated.{epoch_of}
-use Rattle.clk_latch.specs.Kept.{knows_both}
-use Rattle.clk_latch.proofs.Keeping.{learns}
+use Rattle.clk_latch.specs.LatchSeats.{epoch_of}
+use Rattle.clk_latch.specs.LatchRule.{knows_both}
+use Rattle.clk_latch.proofs.LatchSteps.{learns}
 use Rattle.clk_latch.proofs.Seating.{joins, joined}
 use Rattle.clk_latch.proofs.latch.LatchEpochs.join.Goals as goal
 

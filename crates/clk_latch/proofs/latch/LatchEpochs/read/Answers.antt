@@ -8,7 +8,7 @@ use Rattle.clk_machine.specs.declared.reading.RawReading.{RawReading}
 use Rattle.clk_latch.specs.declared.rule.Knows.{Knows}
 use Rattle.clk_latch.specs.Epoch.{Place}
 use Rattle.clk_latch.specs.Calls.{Reads}
-use Rattle.clk_latch.specs.Seated.{epoch_of}
+use Rattle.clk_latch.specs.LatchSeats.{epoch_of}
 use Rattle.clk_latch.proofs.Converting.{sum_stays}
 use Rattle.clk_latch.proofs.Reading.{reads, owner_stays, reader_stays}
 use Rattle.clk_latch.proofs.latch.LatchEpochs.read.Goals as goal
@@ -18,8 +18,8 @@ invariant_of-seat c =
     let went = c.current-epoch.ensures.went in
     record {
       empty = ap (λ (me : Me (Unit {0}) Knows). me.1) went.is ∙ c.seat.invariant.empty;
-      reader = reader_stays _ _ _ went c.seat.invariant.reader;
-      owner = owner_stays _ _ _ went c.seat.invariant.owner;
+      reader = reader_stays _ _ _ _ went c.seat.invariant.reader;
+      owner = owner_stays _ _ _ _ went c.seat.invariant.owner;
     }
 
 pub returns-clause-reads : goal.returns-clause-reads

@@ -4,8 +4,8 @@ use mir.Val.{to_z, of_z}
 use Rattle.atomic_table.specs.Table.{Me}
 use Rattle.clk_machine.specs.declared.reading.Published.{Published}
 use Rattle.clk_latch.specs.declared.rule.Knows.{Knows}
-use Rattle.clk_latch.specs.Seated.{IsOwner}
-use Rattle.clk_latch.proofs.Keeping.{true_not_false}
+use Rattle.clk_latch.specs.LatchSeats.{IsOwner}
+use Rattle.clk_latch.proofs.LatchSteps.{true_not_false}
 use Rattle.clk_latch.proofs.Updating.{is_made, still_owner, updates, drawn_after}
 use Rattle.clk_latch.proofs.latch.LatchEpochs.update.Goals as goal
 

@@ -4,7 +4,7 @@ use Rattle.clk_machine.specs.Records.{base_of, AreRecords}
 use Rattle.clk_machine.specs.declared.reading.Published.{Published}
 use Rattle.clk_latch.specs.Epoch.{Epoch}
 use Rattle.clk_local.specs.Context.{BeginsAtBase}
-use Rattle.clk_local.proofs.Keeping.{role_same, still_usable}
+use Rattle.clk_local.proofs.ContextKept.{role_same, still_usable}
 use Rattle.clk_local.proofs.Spending.{one_ticket}
 use Rattle.clk_local.proofs.tests.cell.update.Goals as goal
 

@@ -8,7 +8,7 @@ use Rattle.clk_words.specs.Knowing.{HasLoaded}
 use Rattle.clk_words.proofs.Loading.{kept_stamp, loaded_stamp}
 use Rattle.clk_words.proofs.Turns.{owner_raw, whole_raw}
 use Rattle.clk_local.proofs.Raising.{raw_near, still_base}
-use Rattle.clk_local.proofs.Keeping.{still_usable, role_kept}
+use Rattle.clk_local.proofs.ContextKept.{still_usable, role_kept}
 use Rattle.clk_local.proofs.Spending.{one_ticket}
 use Rattle.clk_local.proofs.tests.rows.first_half.Goals as goal
 

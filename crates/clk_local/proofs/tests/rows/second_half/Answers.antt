@@ -12,7 +12,7 @@ use Rattle.clk_words.specs.Told.{Makes, Loads, FindsGtod, FindsOffset}
 use Rattle.clk_words.proofs.Loading.{kept_both, kept_stamp, kept_offset, kept_clock, kept_makes, trusted_half, trusted_clock, whole_offset, whole_clock}
 use Rattle.clk_words.proofs.Turns.{owner_gtod, whole_gtod}
 use Rattle.clk_local.specs.Context.{MayStamp}
-use Rattle.clk_local.proofs.Keeping.{still_usable, found_still, role_kept}
+use Rattle.clk_local.proofs.ContextKept.{still_usable, found_still, role_kept}
 use Rattle.clk_local.proofs.tests.rows.second_half.Goals as goal
 
 -- no step of it takes an owner's right to stamp

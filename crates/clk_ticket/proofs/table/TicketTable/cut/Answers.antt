@@ -1,5 +1,5 @@
 use Rattle.std.proofs.Common.{rules}
-use Rattle.clk_ticket.proofs.Keeping.{splits}
+use Rattle.clk_ticket.proofs.TicketSteps.{splits}
 use Rattle.clk_ticket.proofs.table.TicketTable.cut.Goals as goal
 
 pub split_seat-part-requires : goal.split_seat-part-requires

@@ -2,10 +2,10 @@ use Rattle.std.proofs.Common.{◌≡◌, rules, sym, subst, ap, ◌∙◌}
 use Rattle.atomic_table.specs.Table.{Me}
 use Rattle.clk_base.specs.Blocks.{Rises}
 use Rattle.clk_ticket.specs.Time.{Time, after_draw, share_of}
-use Rattle.clk_ticket.specs.Seated.{time_of}
+use Rattle.clk_ticket.specs.TimeSeats.{time_of}
 use Rattle.clk_ticket.specs.declared.rule.Knows.{Knows}
 use Rattle.clk_ticket.proofs.Blocks.{rises_more, share_drawn}
-use Rattle.clk_ticket.proofs.Keeping.{draws}
+use Rattle.clk_ticket.proofs.TicketSteps.{draws}
 use Rattle.clk_ticket.proofs.table.TicketTable.draw.Goals as goal
 
 pub fetch_add-requires : goal.fetch_add-requires

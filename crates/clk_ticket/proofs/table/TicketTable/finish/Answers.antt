@@ -2,7 +2,7 @@ use Rattle.std.proofs.Common.{◌≡◌, ◌∙◌, ap, sym, subst}
 use Rattle.clk_base.specs.Blocks.{Covers}
 use Rattle.clk_ticket.specs.Sizes.{size_of}
 use Rattle.clk_ticket.specs.Time.{Tickets, Time, share_of}
-use Rattle.clk_ticket.proofs.Keeping.{finishes}
+use Rattle.clk_ticket.proofs.TicketSteps.{finishes}
 use Rattle.clk_ticket.proofs.table.TicketTable.finish.Goals as goal
 
 pub returns : goal.returns

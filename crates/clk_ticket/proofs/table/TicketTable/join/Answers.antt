@@ -1,5 +1,5 @@
 use Rattle.std.proofs.Common.{rules}
-use Rattle.clk_ticket.proofs.Keeping.{joins, looks}
+use Rattle.clk_ticket.proofs.TicketSteps.{joins, looks}
 use Rattle.clk_ticket.proofs.table.TicketTable.join.Goals as goal
 
 pub join_seat-requires : goal.join_seat-requires

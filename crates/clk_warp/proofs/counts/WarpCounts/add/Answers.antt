@@ -2,7 +2,7 @@ use Rattle.std.proofs.Common.{◌≡◌, Bool, true, false, [], ◌∷◌, ◌++
 use Rattle.std.proofs.lemmas.Bool.{not-true}
 use Rattle.clk_warp.specs.declared.progress.Progress.{Progress}
 use Rattle.clk_warp.specs.Counts.{progress_of, AreCountsOf}
-use Rattle.clk_warp.specs.Keeping.{WithProgress}
+use Rattle.clk_warp.specs.CountSteps.{WithProgress}
 use Rattle.clk_warp.proofs.Counting.{added_start}
 use Rattle.clk_warp.proofs.counts.WarpCounts.add.Goals as goal
 

@@ -1,6 +1,6 @@
 use Rattle.std.proofs.Common.{◌≡◌, subst}
 use Rattle.clk_warp.specs.declared.progress.Progress.{Progress}
-use Rattle.clk_warp.specs.Keeping.{WithProgress, Compares}
+use Rattle.clk_warp.specs.CountSteps.{WithProgress, Compares}
 use Rattle.clk_warp.proofs.Counting.{gone_on, added_turn}
 use Rattle.clk_warp.proofs.counts.WarpCounts.turn.Goals as goal
 

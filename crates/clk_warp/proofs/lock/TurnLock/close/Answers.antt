@@ -1,8 +1,8 @@
 use Rattle.std.proofs.Common.{◌≡◌, false, IsSome, ◌∙◌, ap, rules, sym, subst, refl}
 use Rattle.clk_warp.specs.declared.view.Role.TheVariants.{Joined}
 use Rattle.clk_warp.specs.Turns.{Lock, Turn, Closes}
-use Rattle.clk_warp.specs.Kept.{knows_both}
-use Rattle.clk_warp.specs.Seated.{turn_of}
+use Rattle.clk_warp.specs.LockRule.{knows_both}
+use Rattle.clk_warp.specs.TurnSeats.{turn_of}
 use Rattle.clk_warp.proofs.Ending.{joins, finishes}
 use Rattle.clk_warp.proofs.Seating.{MeOf, end_as, slot_is, closes_by}
 use Rattle.clk_warp.proofs.lock.TurnLock.close.Goals as goal

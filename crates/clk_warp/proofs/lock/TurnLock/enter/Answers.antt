@@ -1,7 +1,7 @@
 use Rattle.std.proofs.Common.{true, Some, ◌∙◌, ap, rules, subst}
 use Rattle.clk_warp.specs.Turns.{Turn, Enters}
-use Rattle.clk_warp.specs.Seated.{turn_of}
-use Rattle.clk_warp.proofs.Keeping.{taking}
+use Rattle.clk_warp.specs.TurnSeats.{turn_of}
+use Rattle.clk_warp.proofs.LockSteps.{taking}
 use Rattle.clk_warp.proofs.Seating.{outside_of, waiting_of, called_of, taken_of, taken_slot, taken_some, entered, seated_inside}
 use Rattle.clk_warp.proofs.lock.TurnLock.enter.Goals as goal
 

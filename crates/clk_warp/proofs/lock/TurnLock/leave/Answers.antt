@@ -1,7 +1,7 @@
 use Rattle.std.proofs.Common.{◌≡◌, true, false, ◌∙◌, ap, rules, sym, subst}
 use Rattle.clk_warp.specs.Sections.{after}
 use Rattle.clk_warp.specs.Turns.{Lock, Turn, IsChanged, Leaves}
-use Rattle.clk_warp.specs.Seated.{turn_of}
+use Rattle.clk_warp.specs.TurnSeats.{turn_of}
 use Rattle.clk_warp.proofs.Seating.{give_ready, raise_ready, left_of, leaves_by}
 use Rattle.clk_warp.proofs.lock.TurnLock.leave.Goals as goal
 

@@ -1,7 +1,7 @@
 use Rattle.std.proofs.Common.{◌≡◌, [], ◌∷◌, List, Some, Option, sym, subst, rules}
 use Rattle.atomic_table.specs.Table.{opening}
 use Rattle.clk_warp.specs.Run.{Run}
-use Rattle.clk_warp.specs.Kept.{Kept, knows_first}
+use Rattle.clk_warp.specs.LockRule.{Kept, knows_first}
 use Rattle.clk_warp.proofs.Ending.{starts}
 use Rattle.clk_warp.proofs.lock.TurnLock.new.Goals as goal
 

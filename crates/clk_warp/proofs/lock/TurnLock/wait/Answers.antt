@@ -1,5 +1,5 @@
 use Rattle.std.proofs.Common.{◌∙◌, ap, rules}
-use Rattle.clk_warp.proofs.Keeping.{calls}
+use Rattle.clk_warp.proofs.LockSteps.{calls}
 use Rattle.clk_warp.proofs.Seating.{MeOf}
 use Rattle.clk_warp.proofs.lock.TurnLock.wait.Goals as goal
 

@@ -5,7 +5,7 @@ use Rattle.std.proofs.lemmas.List.Elements.{All-map}
 use Rattle.clk_machine.specs.declared.parts.ReferencePart.{ReferencePart}
 use Rattle.clk_machine.specs.Plan.{Plan, count_of}
 use Rattle.clk_machine.specs.Limits.{IsWithinLimits}
-use Rattle.clk_watch.specs.Fold.{first_of}
+use Rattle.clk_watch.specs.Fold.{source_at_first}
 use Rattle.clk_watch.specs.Small.{IsSmallWatched}
 use Rattle.clk_watch.proofs.watch.Watch.new.Goals as goal
 
@@ -14,7 +14,7 @@ invariant_of-result c = record {
   limits = subst IsWithinLimits (sym c.of.ensures) c.tickets_needed-limits.ensures.limits;
   visits = rw c.in_ok-records.ensures.items tt;
   sources = rw (c.in_ok-records.ensures.items, c.of.ensures, c.of-2.ensures) c.in_ok-sources.ensures;
-  small = subst (All IsSmallWatched) (sym c.in_ok-sources.ensures) (All-map IsSmallWatched (first_of c.args.tsc_unstable) c.args.machine.now.source (λ k d low. tt));
+  small = subst (All IsSmallWatched) (sym c.in_ok-sources.ensures) (All-map IsSmallWatched (source_at_first c.args.tsc_unstable) c.args.machine.now.source (λ k d low. tt));
   reference = c.count.ensures ∙ ap (λ (r : ReferencePart). count_of r.rating) c.reference_part.ensures ∙ ap (λ (m : Plan). count_of m.reference.rating) (sym c.of.ensures);
   room =
       let most = mul-le-mul_right (c.retries.result + 1) c.visits-visits.ensures.few in

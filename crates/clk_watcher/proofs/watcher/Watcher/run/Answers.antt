@@ -1,5 +1,5 @@
 use Rattle.std.proofs.Common.{◌≡◌, rules}
-use Rattle.clk_watch.specs.Watching.{checks_in}
+use Rattle.clk_watch.specs.Watching.{checks_asked}
 use Rattle.clk_watcher.proofs.Making.{belongs_on, runs_on}
 use Rattle.clk_watcher.proofs.Ending.{ran_all}
 use Rattle.clk_watcher.proofs.watcher.Watcher.run.Goals as goal
@@ -13,5 +13,5 @@ loop-number-preserved g c =
 
 pub returns-clause-watched : goal.returns-clause-watched
 returns-clause-watched g c =
-    let whole : c.loop-number.self.next ≡ checks_in c.args.shared.now.machine.watchdog = search rules in
+    let whole : c.loop-number.self.next ≡ checks_asked c.args.shared.now.machine.watchdog = search rules in
     ran_all c.args.shared.now c.args.self.now c.loop-number.self whole c.loop-number.invariant.went

@@ -7,7 +7,7 @@ use Rattle.clk_words.specs.declared.view.View.{View}
 use Rattle.clk_words.specs.Histories.{opens_at}
 use Rattle.clk_words.specs.Knowing.{HasAll}
 use Rattle.clk_words.specs.Held.{Held, Place}
-use Rattle.clk_words.specs.Seated.{AreEnded}
+use Rattle.clk_words.specs.WordSeats.{AreEnded}
 use Rattle.clk_words.specs.Calls.{IsComplete}
 use Rattle.clk_words.proofs.Ending.{Ends, ends}
 use Rattle.clk_words.proofs.words.Words.finish.Goals as goal

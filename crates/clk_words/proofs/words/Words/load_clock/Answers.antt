@@ -1,7 +1,7 @@
 use Rattle.std.proofs.Common.{ap, rules, arith, to_z-of_z, FitsSigned, w64}
 use Rattle.clk_words.specs.declared.view.View.{View}
 use Rattle.clk_words.specs.Held.{Held}
-use Rattle.clk_words.proofs.Keeping.{looks_up}
+use Rattle.clk_words.proofs.WordsSteps.{looks_up}
 use Rattle.clk_words.proofs.Calling.{belongs, word_low, place_kept, sits_loads, says_loads, clock_fits, word_here}
 use Rattle.clk_words.proofs.words.Words.load_clock.Goals as goal
 

@@ -5,7 +5,7 @@ use Rattle.clk_words.specs.declared.kind.SeatKind.TheVariants.{Reader}
 use Rattle.clk_words.specs.declared.step.Step.{Step}
 use Rattle.clk_words.specs.declared.view.View.{View}
 use Rattle.clk_words.specs.Histories.{opens_at}
-use Rattle.clk_words.specs.Seated.{IsSeated}
+use Rattle.clk_words.specs.WordSeats.{IsSeated}
 use Rattle.clk_words.proofs.Starting.{starts}
 use Rattle.clk_words.proofs.Meeting.{sits_first}
 use Rattle.clk_words.proofs.words.Words.new.Goals as goal

@@ -8,7 +8,7 @@ use Rattle.clk_words.specs.Heights.{IsClockWord}
 use Rattle.clk_words.specs.Knowing.{IsTrusted}
 use Rattle.clk_words.specs.Told.{Raises}
 use Rattle.clk_words.specs.Held.{Held, Place}
-use Rattle.clk_words.proofs.Keeping.{raises}
+use Rattle.clk_words.proofs.WordsSteps.{raises}
 use Rattle.clk_words.proofs.Calling.{belongs, place_kept, asked, asked_target, near_here, target_here, raise_asked, sits_makes, clock_fits, word_here, says_raised, same_raise}
 use Rattle.clk_words.proofs.words.Words.raise_by.Given.{Over}
 use Rattle.clk_words.proofs.words.Words.raise_by.Goals as goal

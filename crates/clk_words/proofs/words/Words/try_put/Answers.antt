@@ -9,7 +9,7 @@ use Rattle.clk_words.specs.declared.view.Name.TheVariants.{Clock}
 use Rattle.clk_words.specs.Targets.{target}
 use Rattle.clk_words.specs.Knowing.{HasLoaded}
 use Rattle.clk_words.specs.Held.{Held, Place}
-use Rattle.clk_words.proofs.Keeping.{tries}
+use Rattle.clk_words.proofs.WordsSteps.{tries}
 use Rattle.clk_words.proofs.Calling.{belongs, place_kept, asked, put_in_range, try_asked, loaded_sound, near_clock, word_here, sits_exchanged, exchanged_start, says_done, told_miss, says_lost}
 use Rattle.clk_words.proofs.words.Words.try_put.Goals as goal
 use Rattle.clk_words.proofs.words.Words.try_put.Goals.{then-found-wanted, else-found-wanted}
