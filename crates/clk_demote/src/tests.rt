@@ -25,38 +25,38 @@ use std::process::Abort;
 use std::test::Fail;
 
 // A list of none.
-fn none<T>(alloc: Global) -> Result<List<T>, AllocError>
-    ensures { IfOk result (λ l. l.items ≡ []) }
+fn none<T, R: Abort>(rt: &R, alloc: Global) -> List<T>
+    ensures { result.items ≡ [] }
 {
-    List::with_room(alloc, 0)
+    List::with_room(alloc, 0).expect(rt, "memory")
 }
 
 // A list of one.
-fn one<T: Drop>(alloc: Global, item: T) -> Result<List<T>, AllocError>
-    ensures { IfOk result (λ l. l.items ≡ item ∷ []) }
+fn one<T: Drop, R: Abort>(rt: &R, alloc: Global, item: T) -> List<T>
+    ensures { result.items ≡ item ∷ [] }
 {
-    let mut list = List::with_room(alloc, 1)?;
+    let mut list = List::with_room(alloc, 1).expect(rt, "memory");
     list.push(item);
-    Ok(list)
+    list
 }
 
-fn parts(alloc: Global) -> Result<Parts, AllocError>
-    ensures form { IfOk result (λ p. IsWellFormed (plan_of p)) }
-    ensures cpus { IfOk result (λ p. cpu_count (plan_of p) ≡ 1) }
-    ensures base { IfOk result (λ p. p.base ≡ pos 0) }
+fn parts<R: Abort>(rt: &R, alloc: Global) -> Parts
+    ensures form { IsWellFormed (plan_of result) }
+    ensures cpus { cpu_count (plan_of result) ≡ 1 }
+    ensures base { result.base ≡ pos 0 }
 {
     let script = Script {
         repeat: 1,
-        words: none(alloc)?,
+        words: none(rt, alloc),
     };
     let cpu = CpuPart {
         khz: 1_100_000,
         offset: 0,
         socket: 0,
-        jumps: none(alloc)?,
+        jumps: none(rt, alloc),
         script,
     };
-    Ok(Parts {
+    Parts {
         version: 1,
         base: 0,
         cpus: 1,
@@ -71,21 +71,21 @@ fn parts(alloc: Global) -> Result<Parts, AllocError>
             rating: 100,
             margin: 7,
         },
-        cpu: one(alloc, cpu)?,
-        reader: none(alloc)?,
-        delay: none(alloc)?,
+        cpu: one(rt, alloc, cpu),
+        reader: none(rt, alloc),
+        delay: none(rt, alloc),
         bringup: None,
         watchdog: None,
-        source: none(alloc)?,
-    })
+        source: none(rt, alloc),
+    }
 }
 
 // The machine, whose clocks begin at 0.
-fn machine(rt: &impl Abort, alloc: Global) -> Result<Machine, AllocError>
-    ensures cpus { IfOk result (λ m. cpu_count m ≡ 1) }
-    ensures base { IfOk result (λ m. m.base ≡ pos 0) }
+fn machine<R: Abort>(rt: &R, alloc: Global) -> Machine
+    ensures cpus { cpu_count result ≡ 1 }
+    ensures base { result.base ≡ pos 0 }
 {
-    Ok(Machine::new(parts(alloc)?).expect(rt, "a machine"))
+    Machine::new(parts(rt, alloc)).expect(rt, "a machine")
 }
 
 // Record 0, whose ticket the test draws.
@@ -133,6 +133,43 @@ fn boot_stamp() -> StableStamp
     }
 }
 
+// A latch that begins with record 0, and the owner's seat.
+fn latch(alloc: Global, machine: &Machine) -> Result<(Latch, LatchSeat), AllocError>
+    requires { 0 < cpu_count machine.now }
+    ensures latch { IfOk result (λ made. made.1.latch ≡ made.0) }
+    ensures base { IfOk result (λ made. BeginsAtBase machine.now made.1.epoch) }
+{
+    let (latch, latch_seat) = Latch::new(alloc, zero_of(machine), 0)?;
+    Ok((latch, latch_seat))
+}
+
+// The words, which open stable at 42, a reader's seat at them, and the watchdog's.
+fn words(alloc: Global, machine: &Machine) -> Result<(Words, Seat, Seat), AllocError>
+    ensures start { IfOk result (λ made. made.0.start ≡ record { cpus = 1; tick = machine.now.tick; opening = record { mode = Stable; offset = pos 12; tick_gtod = pos 30; tick_raw = pos 44 } }) }
+    ensures first { IfOk result (λ made. made.1 ≡ record { table = made.0.table; view = giver_view Watch (first_view made.0.start) }) }
+    ensures watch { IfOk result (λ made. made.2 ≡ record { table = made.0.table; view = given_view Watch (first_view made.0.start) }) }
+{
+    let start = Opening {
+        mode: Mode::Stable,
+        offset: 12,
+        tick_gtod: 30,
+        tick_raw: 44,
+    };
+    let (words, mut first) = Words::new(alloc, 1, machine.tick(), start)?;
+    let seat = words.split(&mut first, SeatKind::Watch);
+    Ok((words, first, seat))
+}
+
+// The tickets, of which 0 to 32 are drawn, for the boot and a check.
+fn tickets(alloc: Global) -> Result<(TicketTable, TimeSeat), AllocError>
+    ensures table { IfOk result (λ made. made.1.table ≡ made.0.table) }
+    ensures left { IfOk result (λ made. made.1.left ≡ 18) }
+{
+    let (tickets, mut time) = TicketTable::new(alloc, 51)?;
+    tickets.draw(&mut time, 33);
+    Ok((tickets, time))
+}
+
 // What threads share.
 #[derive(Drop)]
 struct Shared {
@@ -152,44 +189,36 @@ struct Own {
 }
 
 // All objects over a machine of one CPU, a reader's seat at the words, and the watchdog's. The words open stable at 42,
-// and tickets 0 to 32 are drawn, for the boot and a check.
-fn stand(alloc: Global, machine: Machine) -> Result<(Shared, Seat, Own), AllocError>
-    requires cpus { cpu_count machine ≡ 1 }
-    ensures machine { IfOk result (λ made. made.0.machine ≡ machine) }
-    ensures words { IfOk result (λ made. made.0.words.start ≡ record { cpus = 1; tick = machine.tick; opening = record { mode = Stable; offset = pos 12; tick_gtod = pos 30; tick_raw = pos 44 } }) }
-    ensures first { IfOk result (λ made. made.1 ≡ record { table = made.0.words.table; view = giver_view Watch (first_view made.0.words.start) }) }
-    ensures watch { IfOk result (λ made. made.2.seat ≡ record { table = made.0.words.table; view = given_view Watch (first_view made.0.words.start) }) }
-    ensures latches { IfOk result (λ made. AllZip ⟦<Latch as Epochs>⟧.fits made.0.latches.items made.2.latch_seats.items) }
-    ensures count { IfOk result (λ made. length made.0.latches.items ≡ 1) }
-    ensures base { IfOk result (λ made. All (BeginsAtBase machine) (map ⟦<Latch as Epochs>⟧.epoch made.2.latch_seats.items)) }
-    ensures adjusts { IfOk result (λ made. made.0.adjusts.items ≡ pos 0 ∷ []) }
-    ensures tickets { IfOk result (λ made. (made.2.time.table ≡ made.0.tickets.table) × (made.2.time.left ≡ 18)) }
+// and tickets 0 to 32 are drawn.
+fn stand<R: Abort>(rt: &R, alloc: Global) -> (Shared, Seat, Own)
+    ensures cpus { cpu_count result.0.machine ≡ 1 }
+    ensures zero { result.0.machine.base ≡ pos 0 }
+    ensures words { result.0.words.start ≡ record { cpus = 1; tick = result.0.machine.tick; opening = record { mode = Stable; offset = pos 12; tick_gtod = pos 30; tick_raw = pos 44 } } }
+    ensures first { result.1 ≡ record { table = result.0.words.table; view = giver_view Watch (first_view result.0.words.start) } }
+    ensures watch { result.2.seat ≡ record { table = result.0.words.table; view = given_view Watch (first_view result.0.words.start) } }
+    ensures latches { AllZip ⟦<Latch as Epochs>⟧.fits result.0.latches.items result.2.latch_seats.items }
+    ensures count { length result.0.latches.items ≡ 1 }
+    ensures base { All (BeginsAtBase result.0.machine) (map ⟦<Latch as Epochs>⟧.epoch result.2.latch_seats.items) }
+    ensures adjusts { result.0.adjusts.items ≡ pos 0 ∷ [] }
+    ensures tickets { (result.2.time.table ≡ result.0.tickets.table) × (result.2.time.left ≡ 18) }
 {
-    let start = Opening {
-        mode: Mode::Stable,
-        offset: 12,
-        tick_gtod: 30,
-        tick_raw: 44,
-    };
-    let (words, mut first) = Words::new(alloc, 1, machine.tick(), start)?;
-    let seat = words.split(&mut first, SeatKind::Watch);
-    let (latch, latch_seat) = Latch::new(alloc, zero_of(&machine), 0)?;
-    let (tickets, mut time) = TicketTable::new(alloc, 51)?;
-    tickets.draw(&mut time, 33);
-    let latch_seats = one(alloc, latch_seat)?;
+    let machine = machine(rt, alloc);
+    let (words, first, seat) = words(alloc, &machine).expect(rt, "memory");
+    let (latch, latch_seat) = latch(alloc, &machine).expect(rt, "memory");
+    let (tickets, time) = tickets(alloc).expect(rt, "memory");
     let own = Own {
         seat,
-        latch_seats,
+        latch_seats: one(rt, alloc, latch_seat),
         time,
     };
     let shared = Shared {
         words,
-        latches: one(alloc, latch)?,
-        adjusts: one(alloc, 0)?,
+        latches: one(rt, alloc, latch),
+        adjusts: one(rt, alloc, 0),
         tickets,
         machine,
     };
-    Ok((shared, first, own))
+    (shared, first, own)
 }
 
 // What a reader finds of the pair and the offset once the mode is per-CPU.
@@ -266,39 +295,52 @@ fn lift(old: i64, new: i64) -> Step {
     }
 }
 
-#[test]
-fn the_watchdog_demotes(rt: HostRuntime) -> Result<(), Fail> {
-    let alloc = rt.alloc();
-    let machine = machine(&rt, alloc)?;
-    let (shared, mut first, own) = stand(alloc, machine)?;
+// What the watchdog answers to a stamp and to a demotion, its lifts, and what a reader finds then.
+#[derive(Drop)]
+struct Answers {
+    stable: StableStamp,
+    demotion: Demotion,
+    lifts: List<Step>,
+    found: Option<(i64, i64, i64)>,
+}
+
+fn stamp_and_demote<R: Abort>(rt: &R, alloc: Global) -> Answers {
+    let (shared, mut first, own) = stand(rt, alloc);
+    let mut lifts = List::with_room(alloc, 1).expect(rt, "memory");
     let mut ctx = context(&shared, own);
     let stable = stable_stamp(&mut ctx, 0);
-    assert_eq!(rt;
-        stable,
-        StableStamp {
-            gtod_ticket: 33,
-            gtod: 330,
-            raw: reading(34),
-            offset: 42,
-        }
-    );
     pause(&mut ctx);
-    let mut lifts = List::with_room(alloc, 1)?;
     let demotion = demote(&mut ctx, 0, 2, &mut lifts);
-    assert_eq!(rt;
+    Answers {
+        stable,
         demotion,
-        Demotion {
-            stable,
-            gtod_ticket: 49,
-            gtod: 490,
-            raw: reading(50),
-            sched_offset: -2,
-            gtod_offset: 42,
-            opening: 532,
-            drift: 16,
-        }
+        lifts,
+        found: found(&shared.words, &mut first),
+    }
+}
+
+#[test]
+fn the_watchdog_demotes(rt: HostRuntime) {
+    let answers = stamp_and_demote(&rt, rt.alloc());
+    let stable = StableStamp {
+        gtod_ticket: 33,
+        gtod: 330,
+        raw: reading(34),
+        offset: 42,
+    };
+    let demotion = Demotion {
+        stable,
+        gtod_ticket: 49,
+        gtod: 490,
+        raw: reading(50),
+        sched_offset: -2,
+        gtod_offset: 42,
+        opening: 532,
+        drift: 16,
+    };
+    assert_eq!(rt; (answers.stable, answers.demotion), (stable, demotion));
+    assert_eq!(rt;
+        (answers.lifts.items(), answers.found),
+        ([lift(42, 532)].as_slice(), Some((550, 490, 42)))
     );
-    assert_eq!(rt; lifts.items(), [lift(42, 532)].as_slice());
-    assert_eq!(rt; found(&shared.words, &mut first), Some((550, 490, 42)));
-    Ok(())
 }

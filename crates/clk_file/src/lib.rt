@@ -21,8 +21,6 @@ mod laws;
 mod parts;
 mod read;
 mod tables;
-#[cfg(test)]
-mod tests;
 mod words;
 
 pub use error::{FileError, TableError};

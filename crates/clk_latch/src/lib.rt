@@ -28,8 +28,6 @@ mod latch;
 mod laws;
 mod rule;
 mod seat;
-#[cfg(test)]
-mod tests;
 mod turn;
 
 pub use cell::CellLatch;

@@ -31,8 +31,6 @@ mod reading;
 mod rows;
 mod script;
 mod sources;
-#[cfg(test)]
-mod tests;
 mod threads;
 mod tickets;
 

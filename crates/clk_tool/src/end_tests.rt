@@ -6,13 +6,12 @@ use crate::sure::{SureSink, SureSource};
 use crate::whole::{LIMIT, ReadRefusal, read_whole};
 use clk_num::List;
 use clk_trace::{Failed, Sink};
-use std::alloc::Global;
+use std::alloc::{AllocError, Global};
 use std::io::Cursor;
-use std::test::Fail;
 
-// A list of these items with room for `room` items in all.
-fn list_of<T: Copy + Drop>(alloc: Global, items: &[T], room: usize) -> Result<List<T>, Fail> {
-    let mut list = List::with_room(alloc, room)?;
+// A list of these items with room for `more` items beside them.
+fn list_of<T: Copy + Drop>(alloc: Global, items: &[T], more: usize) -> Result<List<T>, AllocError> {
+    let mut list = List::with_room(alloc, items.len().saturating_add(more))?;
     for item in items {
         if list.room() > 0 {
             list.push(*item);
@@ -21,60 +20,64 @@ fn list_of<T: Copy + Drop>(alloc: Global, items: &[T], room: usize) -> Result<Li
     Ok(list)
 }
 
-fn spaces(alloc: Global, n: usize) -> Result<List<u8>, Fail> {
-    let mut list = List::with_room(alloc, n)?;
-    for _ in 0..n {
-        if list.room() > 0 {
-            list.push(b' ');
-        }
-    }
-    Ok(list)
+// A source of these bytes that gives 4 in a call, and whose second call fails.
+fn failing_source(alloc: Global, bytes: &[u8]) -> Result<MemSource, AllocError> {
+    let fails = list_of(alloc, &[2], 0)?;
+    Ok(MemSource::new(list_of(alloc, bytes, 0)?, 4, fails))
 }
 
-#[test]
-fn a_source_gives_pieces_and_fails_where_it_is_told_to(rt: HostRuntime) -> Result<(), Fail> {
-    let bytes = list_of(rt.alloc(), b"0123456789", 10)?;
-    let mut source = MemSource::new(bytes, 4, list_of(rt.alloc(), &[2], 1)?);
-    let mut came = Vec::new(rt.alloc());
-    for want in [Ok(4), Err(Failed), Ok(4), Ok(2), Ok(0)] {
+// What five calls of a source give: a line for each, with its bytes, or what it fails with.
+fn five_reads<S: Source>(alloc: Global, source: &mut S) -> Result<String, AllocError> {
+    let mut text = String::new(alloc);
+    for _ in 0..5 {
         let mut buf = [0; 16];
-        let result = source.read(&mut buf);
-        assert_eq!(rt; result, want);
-        if let Ok(n) = result {
-            came.extend_from_slice(&buf[..n])?;
+        match source.read(&mut buf) {
+            Ok(n) => text.push_str(String::from_utf8_lossy(alloc, &buf[..n])?.as_str())?,
+            Err(Failed) => text.push_str("fault")?,
         }
+        text.push_str("\n")?;
     }
-    assert_eq!(rt; came.as_slice(), b"0123456789".as_slice());
-    assert_eq!(rt; source.faults(), 1);
+    Ok(text)
+}
+
+#[test]
+fn a_source_gives_pieces_and_fails_where_it_is_told_to(rt: HostRuntime) -> Result<(), AllocError> {
+    let mut source = failing_source(rt.alloc(), b"0123456789")?;
+    let reads = five_reads(rt.alloc(), &mut source)?;
+    assert!(rt; (reads.as_str(), source.faults()) == ("0123\nfault\n4567\n89\n\n", 1));
+    Ok(())
+}
+
+// A sink that holds these bytes and has room for `room` more, takes 16 in a call, and of which these calls fail.
+fn sink_of(alloc: Global, bytes: &[u8], room: usize, fails: &[u64]) -> Result<MemSink, AllocError> {
+    let fails = list_of(alloc, fails, 0)?;
+    Ok(MemSink::new(list_of(alloc, bytes, room)?, 16, fails))
+}
+
+#[test]
+fn a_sink_fails_where_it_is_told_to(rt: HostRuntime) -> Result<(), AllocError> {
+    let mut sink = sink_of(rt.alloc(), b"", 40, &[2])?;
+    let counts = [
+        sink.write(b"0123456789abcdefgh"),
+        sink.write(b"gh"),
+        sink.write(b"gh"),
+    ];
+    assert!(rt; counts == [Ok(16), Err(Failed), Ok(2)]);
+    assert!(rt; (sink.bytes().items(), sink.faults()) == (b"0123456789abcdefgh".as_slice(), 1));
     Ok(())
 }
 
 #[test]
-fn a_sink_fails_where_it_is_told_to(rt: HostRuntime) -> Result<(), Fail> {
-    let bytes = List::with_room(rt.alloc(), 40)?;
-    let mut sink = MemSink::new(bytes, 16, list_of(rt.alloc(), &[2], 1)?);
-    assert_eq!(rt; sink.write(b"0123456789abcdefgh"), Ok(16));
-    assert_eq!(rt; sink.write(b"gh"), Err(Failed));
-    assert_eq!(rt; sink.write(b"gh"), Ok(2));
-    assert_eq!(rt; sink.bytes().items(), b"0123456789abcdefgh".as_slice());
-    assert_eq!(rt; sink.faults(), 1);
+fn a_sink_fails_where_its_room_is_used_up(rt: HostRuntime) -> Result<(), AllocError> {
+    let mut sink = sink_of(rt.alloc(), b"was ", 3, &[])?;
+    let counts = [sink.write(b"here"), sink.write(b""), sink.write(b"e")];
+    assert!(rt; counts == [Ok(3), Ok(0), Err(Failed)]);
+    assert!(rt; (sink.bytes().items(), sink.faults()) == (b"was her".as_slice(), 1));
     Ok(())
 }
 
 #[test]
-fn a_sink_fails_where_its_room_is_used_up(rt: HostRuntime) -> Result<(), Fail> {
-    let bytes = list_of(rt.alloc(), b"was ", 7)?;
-    let mut sink = MemSink::new(bytes, 16, list_of(rt.alloc(), &[], 0)?);
-    assert_eq!(rt; sink.write(b"here"), Ok(3));
-    assert_eq!(rt; sink.write(b""), Ok(0));
-    assert_eq!(rt; sink.write(b"e"), Err(Failed));
-    assert_eq!(rt; sink.bytes().items(), b"was her".as_slice());
-    assert_eq!(rt; sink.faults(), 1);
-    Ok(())
-}
-
-#[test]
-fn a_sure_sink_drops_what_does_not_fit(rt: HostRuntime) -> Result<(), Fail> {
+fn a_sure_sink_drops_what_does_not_fit(rt: HostRuntime) -> Result<(), AllocError> {
     let mut sink = SureSink::new(List::with_room(rt.alloc(), 6)?);
     for (piece, want) in [
         ("four", "four"),
@@ -82,62 +85,81 @@ fn a_sure_sink_drops_what_does_not_fit(rt: HostRuntime) -> Result<(), Fail> {
         ("", "fourfo"),
         ("four", "fourfo"),
     ] {
-        assert_eq!(rt; sink.write(piece.as_bytes()), Ok(piece.len()));
-        assert_eq!(rt; sink.bytes().items(), want.as_bytes());
+        let count = sink.write(piece.as_bytes());
+        assert!(rt; (count, sink.bytes().items()) == (Ok(piece.len()), want.as_bytes()));
     }
     Ok(())
 }
 
 #[test]
-fn ends_of_std_read_and_write(rt: HostRuntime) -> Result<(), Fail> {
+fn a_source_over_std_reads(rt: HostRuntime) {
     let mut source = StdSource::new(Cursor::new(b"abc".as_slice()));
     let mut buf = [0; 2];
-    assert_eq!(rt; source.read(&mut buf), Ok(2));
-    assert_eq!(rt; buf, *b"ab");
-    assert_eq!(rt; source.read(&mut buf), Ok(1));
-    assert_eq!(rt; source.read(&mut buf), Ok(0));
+    let first = (source.read(&mut buf), buf);
+    let rest = [source.read(&mut buf), source.read(&mut buf)];
+    assert!(rt; first == (Ok(2), *b"ab") && rest == [Ok(1), Ok(0)]);
+}
 
+#[test]
+fn a_sink_over_std_writes_and_flushes(rt: HostRuntime) {
     let mut kept = [0; 3];
     let mut sink = StdSink::new(kept.as_mut_slice());
-    assert_eq!(rt; sink.write(b"ab"), Ok(2));
-    assert_eq!(rt; sink.flush(), Ok(()));
-    assert_eq!(rt; sink.write(b"cd"), Ok(1));
-    assert_eq!(rt; sink.write(b"d"), Err(Failed));
-    assert_eq!(rt; sink.write(b""), Ok(0));
+    let first = (sink.write(b"ab"), sink.flush());
+    let rest = [sink.write(b"cd"), sink.write(b"d"), sink.write(b"")];
+    assert!(rt; first == (Ok(2), Ok(())) && rest == [Ok(1), Err(Failed), Ok(0)]);
     assert_eq!(rt; kept, *b"abc");
-    Ok(())
 }
 
-#[test]
-fn a_source_is_read_whole(rt: HostRuntime) -> Result<(), Fail> {
-    for (count, want) in [
-        (200, Ok(200)),
-        (LIMIT, Ok(LIMIT)),
-        (LIMIT + 1, Err(ReadRefusal::TooLong)),
-    ] {
-        let mut source = MemSource::new(
-            spaces(rt.alloc(), count)?,
-            64,
-            list_of(rt.alloc(), &[], 0)?,
-        );
-        let whole = read_whole(rt.alloc(), &mut source);
-        assert_eq!(rt; whole.map(|bytes| bytes.len()), want);
+// How many of so many spaces are read whole in pieces of 64, or why not, and how many calls failed. These calls fail.
+fn read_spaces(
+    alloc: Global,
+    count: usize,
+    fails: &[u64],
+) -> Result<(Result<usize, ReadRefusal>, u64), AllocError> {
+    let mut spaces = List::with_room(alloc, count)?;
+    for _ in 0..count {
+        if spaces.room() > 0 {
+            spaces.push(b' ');
+        }
     }
-    let mut source = SureSource::new(list_of(rt.alloc(), b"0123456789", 10)?);
-    assert_eq!(rt;
-        read_whole(rt.alloc(), &mut source)?.as_slice(),
-        b"0123456789".as_slice()
-    );
+    let mut source = MemSource::new(spaces, 64, list_of(alloc, fails, 0)?);
+    let whole = match read_whole(alloc, &mut source) {
+        Ok(bytes) => Ok(bytes.len()),
+        Err(refusal) => Err(refusal),
+    };
+    Ok((whole, source.faults()))
+}
+
+// How many spaces a source has, which of its calls fail, and what is read whole, with the number of faults.
+const WHOLE: [(usize, &[u64], (Result<usize, ReadRefusal>, u64)); 4] = [
+    (200, &[], (Ok(200), 0)),
+    (LIMIT, &[], (Ok(LIMIT), 0)),
+    (LIMIT + 1, &[], (Err(ReadRefusal::TooLong), 0)),
+    (100, &[2], (Err(ReadRefusal::Fault), 1)),
+];
+
+#[test]
+fn a_source_is_read_whole_or_refused(rt: HostRuntime) -> Result<(), AllocError> {
+    for (count, fails, want) in WHOLE {
+        assert!(rt;
+            read_spaces(rt.alloc(), count, fails)? == want,
+            "at {count}"
+        );
+    }
     Ok(())
 }
 
+// What is read of a source that never fails, where it is these bytes.
+fn is_read_whole(alloc: Global, bytes: &[u8]) -> Result<bool, AllocError> {
+    let mut source = SureSource::new(list_of(alloc, bytes, 0)?);
+    match read_whole(alloc, &mut source) {
+        Ok(whole) => Ok(whole.as_slice() == bytes),
+        Err(_) => Ok(false),
+    }
+}
+
 #[test]
-fn a_fault_refuses_the_whole(rt: HostRuntime) -> Result<(), Fail> {
-    let mut source = MemSource::new(spaces(rt.alloc(), 100)?, 64, list_of(rt.alloc(), &[2], 1)?);
-    assert_eq!(rt;
-        read_whole(rt.alloc(), &mut source),
-        Err(ReadRefusal::Fault)
-    );
-    assert_eq!(rt; source.faults(), 1);
+fn what_is_read_whole_is_the_bytes(rt: HostRuntime) -> Result<(), AllocError> {
+    assert!(rt; is_read_whole(rt.alloc(), b"0123456789")?);
     Ok(())
 }

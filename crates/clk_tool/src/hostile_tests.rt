@@ -1,67 +1,19 @@
 //! Hostile ends through the top call: sources and sinks that fail at each of their calls, and files cut after each
 //! byte.
+use crate::answered::{bytes_of, joined, run_between, shown};
 use crate::memory::{MemSink, MemSource};
-use crate::source::Source;
+use crate::stable_tests::{DEMOTED, REALISTIC};
 use crate::status::Status;
 use crate::sure::{SureSink, SureSource};
-use crate::tool::clock_tool;
 use clk_machine::OpenGate;
 use clk_num::List;
-use clk_trace::Sink;
 use std::alloc::{AllocError, Global};
 use std::sync::Wait;
-use std::test::Fail;
 use std::thread::Threads;
 
 // One CPU that makes one local read.
 const ONE_READ: &str =
     "version = 1\ncpus = 1\nstep = 10\ntick = 1000000\nnominal_khz = 1000000\nstable = false\n[reference]\nkhz = 1000000\n[[cpu]]\nscript = [\"local\"]\n";
-
-// A clock that starts stable, and that the watchdog demotes.
-const DEMOTED: &str =
-    "version = 1\ncpus = 1\nstep = 10\nnominal_khz = 1000000\nstable = true\nreference = { khz = 1000000, margin = 7 }\nwatchdog = { checks = 3, pause = 10, skew = 100, retries = 0 }\n[[cpu]]\nkhz = 1100000\n[[source]]\ntsc = true\nrating = 300\nmargin = 7\n";
-
-// What a realistic machine of four CPUs and two readers has beside its threads.
-const REALISTIC: &str =
-    "version = 1\ncpus = 4\nstep = 10\nnominal_khz = 2400000\nstable = true\nreference = { khz = 14318, bits = 32, rating = 250, margin = 100000 }\nbringup = { adjust = true, timeout_us = 2, turns = 1000 }\nwatchdog = { checks = 8, pause = 1000, skew = 100000, retries = 3 }\nsource = [{ tsc = true, rating = 300, margin = 100000 }]\n";
-
-const OWNER: &str =
-    "repeat = 200\nscript = [\"tick\", \"local\", \"remote 1\", \"idle\", \"pause 5\"]\n";
-
-const READER: &str = "repeat = 250\nscript = [\"local\", \"remote 3\"]\n";
-
-const THREADS: [(&str, &str); 6] = [
-    ("[[cpu]]\n", OWNER),
-    ("[[cpu]]\noffset = 300\n", OWNER),
-    ("[[cpu]]\n", OWNER),
-    ("[[cpu]]\n", OWNER),
-    ("[[reader]]\ncpu = 0\n", READER),
-    ("[[reader]]\ncpu = 2\n", READER),
-];
-
-fn realistic(alloc: Global) -> Result<String, AllocError> {
-    let mut text = String::from_str(alloc, REALISTIC)?;
-    for (head, script) in THREADS {
-        text.push_str(head)?;
-        text.push_str(script)?;
-    }
-    Ok(text)
-}
-
-// Runs the program between these ends.
-fn run_between<R: Wait + Threads + Sync, S: Source, K: Sink>(
-    rt: &R,
-    alloc: Global,
-    source: &mut S,
-    sink: &mut K,
-) -> Result<Status, AllocError> {
-    let words = vec![in alloc; String::from_str(alloc, "run")?]?;
-    Ok(clock_tool(rt, alloc, words.as_slice(), source, sink, &OpenGate))
-}
-
-fn bytes_of(alloc: Global, bytes: &[u8]) -> Result<List<u8>, AllocError> {
-    Ok(List::from_vec(Vec::from_slice(alloc, bytes)?))
-}
 
 // Runs a text whose source fails at one call. The answer is the status, and whether anything was written.
 fn read_failing_at<R: Wait + Threads + Sync>(
@@ -72,10 +24,9 @@ fn read_failing_at<R: Wait + Threads + Sync>(
     call: u64,
 ) -> Result<(Status, bool), AllocError> {
     let fails = List::from_vec(vec![in alloc; call]?);
-    let bytes = bytes_of(alloc, text.as_bytes())?;
-    let mut source = MemSource::new(bytes, piece.max(1), fails);
+    let mut source = MemSource::new(bytes_of(alloc, text)?, piece.max(1), fails);
     let mut sink = SureSink::new(List::with_room(alloc, 1)?);
-    let status = run_between(rt, alloc, &mut source, &mut sink)?;
+    let status = run_between(rt, alloc, "run", &mut source, &mut sink, &OpenGate)?;
     Ok((status, !sink.bytes().is_empty()))
 }
 
@@ -94,54 +45,60 @@ fn failing_reads<R: Wait + Threads + Sync>(
     Ok(0)
 }
 
-// The most bytes of a read, and how many reads the three texts then take, with the one that finds the end.
-const READS: [(usize, u64, u64, u64); 4] = [
-    (1, 137, 241, 776),
-    (7, 21, 36, 112),
-    (16, 10, 16, 50),
-    (64, 4, 5, 14),
+// A text by its parts, the most bytes of a read, and how many reads it then takes, with the one that finds the end.
+const READS: [(&[&str], usize, u64); 12] = [
+    (&[ONE_READ], 1, 137),
+    (&[ONE_READ], 7, 21),
+    (&[ONE_READ], 16, 10),
+    (&[ONE_READ], 64, 4),
+    (&[DEMOTED], 1, 241),
+    (&[DEMOTED], 7, 36),
+    (&[DEMOTED], 16, 16),
+    (&[DEMOTED], 64, 5),
+    (REALISTIC, 1, 776),
+    (REALISTIC, 7, 112),
+    (REALISTIC, 16, 50),
+    (REALISTIC, 64, 14),
 ];
 
 #[test]
-fn a_source_that_fails_at_any_call_is_a_read_fault(rt: HostRuntime) -> Result<(), Fail> {
-    let machine = realistic(rt.alloc())?;
-    for (piece, one, demoted, real) in READS {
-        let calls = failing_reads(&rt, rt.alloc(), ONE_READ, piece)?;
-        assert_eq!(rt; calls, one, "pieces of {piece}");
-        let calls = failing_reads(&rt, rt.alloc(), DEMOTED, piece)?;
-        assert_eq!(rt; calls, demoted, "pieces of {piece}");
-        let calls = failing_reads(&rt, rt.alloc(), machine.as_str(), piece)?;
-        assert_eq!(rt; calls, real, "pieces of {piece}");
+fn a_source_that_fails_at_any_call_is_a_read_fault(rt: HostRuntime) -> Result<(), AllocError> {
+    for (file, piece, want) in &READS {
+        let text = joined(rt.alloc(), file)?;
+        let calls = failing_reads(&rt, rt.alloc(), text.as_str(), *piece)?;
+        assert!(rt; calls == *want, "{calls} of {want} in pieces of {piece}");
     }
     Ok(())
 }
 
-// Runs a text whose sink fails at one call; at call 0 it never fails. The answer is the status, and what was written.
+// What the program answers to a text where the sink fails at one call; at call 0 it never fails.
 fn write_failing_at<R: Wait + Threads + Sync>(
     rt: &R,
     alloc: Global,
     text: &str,
     piece: usize,
     call: u64,
-) -> Result<(Status, Vec<u8>), AllocError> {
+) -> Result<String, AllocError> {
     let fails = List::from_vec(vec![in alloc; call]?);
-    let mut source = SureSource::new(bytes_of(alloc, text.as_bytes())?);
+    let mut source = SureSource::new(bytes_of(alloc, text)?);
     let mut sink = MemSink::new(List::with_room(alloc, 4_000_000)?, piece.max(1), fails);
-    let status = run_between(rt, alloc, &mut source, &mut sink)?;
-    Ok((status, Vec::from_slice(alloc, sink.bytes().items())?))
+    let status = run_between(rt, alloc, "run", &mut source, &mut sink, &OpenGate)?;
+    shown(alloc, status, sink.bytes().items())
 }
 
-// Whether a write fault at this call of a sink left a beginning of a trace that begins so: each call before it took
-// some bytes, and at most a piece.
-fn is_cut(answer: &(Status, Vec<u8>), head: &[u8], piece: u64, call: u64) -> bool {
-    let (status, written) = answer;
+// Whether an answer is a write fault at this call of a sink, after a beginning of a trace that begins so: each call
+// before it took some bytes, and at most a piece.
+fn is_cut(answer: &str, head: &str, piece: u64, call: u64) -> bool {
     let calls = call.saturating_sub(1);
-    let len = written.len() as u64;
-    let written = written.as_slice();
-    *status == Status::WriteFault
-        && calls <= len
-        && len <= calls.saturating_mul(piece)
-        && (head.starts_with(written) || written.starts_with(head))
+    match answer.strip_suffix("write fault") {
+        Some(written) => {
+            let len = written.len() as u64;
+            calls <= len
+                && len <= calls.saturating_mul(piece)
+                && (head.starts_with(written) || written.starts_with(head))
+        }
+        None => false,
+    }
 }
 
 // Whether a sink that takes the text's trace in such pieces may fail at each of its calls, and after them takes it
@@ -152,29 +109,33 @@ fn is_cut_at_each_write<R: Wait + Threads + Sync>(
     text: &str,
     piece: usize,
 ) -> Result<bool, AllocError> {
-    let (_, trace) = write_failing_at(rt, alloc, text, piece, 0)?;
+    let trace = write_failing_at(rt, alloc, text, piece, 0)?;
     for call in 1..10_000 {
         let answer = write_failing_at(rt, alloc, text, piece, call)?;
-        if !is_cut(&answer, trace.as_slice(), piece as u64, call) {
-            let (status, written) = answer;
-            return Ok(status == Status::Done && written.as_slice() == trace.as_slice());
+        if !is_cut(answer.as_str(), trace.as_str(), piece as u64, call) {
+            return Ok(answer.as_str() == trace.as_str());
         }
     }
     Ok(false)
 }
 
 #[test]
-fn a_sink_that_fails_at_any_call_leaves_a_beginning(rt: HostRuntime) -> Result<(), Fail> {
+fn a_sink_that_fails_at_any_call_leaves_a_beginning(rt: HostRuntime) -> Result<(), AllocError> {
     for piece in [1, 7, 16, 64] {
-        assert!(rt;
-            is_cut_at_each_write(&rt, rt.alloc(), ONE_READ, piece)?,
-            "pieces of {piece}"
-        );
-        assert!(rt;
-            is_cut_at_each_write(&rt, rt.alloc(), DEMOTED, piece)?,
-            "pieces of {piece}"
-        );
+        for text in [ONE_READ, DEMOTED] {
+            assert!(rt;
+                is_cut_at_each_write(&rt, rt.alloc(), text, piece)?,
+                "pieces of {piece}"
+            );
+        }
     }
+    Ok(())
+}
+
+#[test]
+fn a_fault_of_the_sink_leaves_a_beginning(rt: HostRuntime) -> Result<(), AllocError> {
+    let answer = write_failing_at(&rt, rt.alloc(), ONE_READ, 16, 2)?;
+    assert_eq!(rt; answer.as_str(), "trace 1\nepoch 0 write fault");
     Ok(())
 }
 
@@ -183,13 +144,13 @@ const HEAD: &str =
     "trace 1\nepoch 0 0\nboot 1 0 2 48 0 20\nboot 3 0 4 96 0 40\nstart stable -20 20\nrun 1 1\n";
 
 #[test]
-fn a_sink_that_fails_cuts_a_realistic_trace(rt: HostRuntime) -> Result<(), Fail> {
-    let machine = realistic(rt.alloc())?;
+fn a_sink_that_fails_cuts_a_realistic_trace(rt: HostRuntime) -> Result<(), AllocError> {
+    let machine = joined(rt.alloc(), REALISTIC)?;
     for piece in [1, 7, 16, 64] {
         for call in [1, 2, 100, 2_000] {
             let answer = write_failing_at(&rt, rt.alloc(), machine.as_str(), piece, call)?;
             assert!(rt;
-                is_cut(&answer, HEAD.as_bytes(), piece as u64, call),
+                is_cut(answer.as_str(), HEAD, piece as u64, call),
                 "at {call} of {piece}"
             );
         }
@@ -264,6 +225,20 @@ fn answer_at<'a>(cuts: &[(usize, &'a str)], byte: usize) -> &'a str {
     answer
 }
 
+// Whether the program answers so to these bytes, and writes just where the line is empty.
+fn is_answered<R: Wait + Threads + Sync>(
+    rt: &R,
+    alloc: Global,
+    cut: &[u8],
+    want: &str,
+) -> Result<bool, AllocError> {
+    let mut source = SureSource::new(List::from_vec(Vec::from_slice(alloc, cut)?));
+    let mut sink = SureSink::new(List::with_room(alloc, 1)?);
+    let status = run_between(rt, alloc, "run", &mut source, &mut sink, &OpenGate)?;
+    let line = status.to_string(alloc)?;
+    Ok(line.as_str() == want && want.is_empty() != sink.bytes().is_empty())
+}
+
 // The first byte at which a file that is cut is answered otherwise; where none is, the length of the text.
 fn first_other_cut<R: Wait + Threads + Sync>(
     rt: &R,
@@ -273,11 +248,7 @@ fn first_other_cut<R: Wait + Threads + Sync>(
 ) -> Result<usize, AllocError> {
     for byte in 0..text.len() {
         let (cut, _) = text.as_bytes().split_at(byte);
-        let mut source = SureSource::new(bytes_of(alloc, cut)?);
-        let mut sink = SureSink::new(List::with_room(alloc, 1)?);
-        let status = run_between(rt, alloc, &mut source, &mut sink)?;
-        let line = status.to_string(alloc)?;
-        if line.as_str() != answer_at(cuts, byte) || line.is_empty() == sink.bytes().is_empty() {
+        if !is_answered(rt, alloc, cut, answer_at(cuts, byte))? {
             return Ok(byte);
         }
     }
@@ -285,10 +256,9 @@ fn first_other_cut<R: Wait + Threads + Sync>(
 }
 
 #[test]
-fn a_file_cut_after_any_byte_is_answered_by_its_bytes(rt: HostRuntime) -> Result<(), Fail> {
-    let byte = first_other_cut(&rt, rt.alloc(), ONE_READ, &ONE_READ_CUTS)?;
-    assert_eq!(rt; byte, ONE_READ.len());
-    let byte = first_other_cut(&rt, rt.alloc(), DEMOTED, &DEMOTED_CUTS)?;
-    assert_eq!(rt; byte, DEMOTED.len());
+fn a_file_cut_after_any_byte_is_answered_by_its_bytes(rt: HostRuntime) -> Result<(), AllocError> {
+    let first = first_other_cut(&rt, rt.alloc(), ONE_READ, &ONE_READ_CUTS)?;
+    let second = first_other_cut(&rt, rt.alloc(), DEMOTED, &DEMOTED_CUTS)?;
+    assert_eq!(rt; (first, second), (ONE_READ.len(), DEMOTED.len()));
     Ok(())
 }

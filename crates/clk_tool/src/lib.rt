@@ -18,11 +18,15 @@
 #![tactic(auto)]
 
 #[cfg(test)]
+mod answered;
+#[cfg(test)]
 mod bring_up_tests;
 mod command;
 #[cfg(test)]
 mod end_tests;
 mod failures;
+#[cfg(test)]
+mod gates;
 #[cfg(test)]
 mod hostile_tests;
 mod make;

@@ -10,14 +10,10 @@
 mod counting;
 mod event;
 mod gather;
-#[cfg(test)]
-mod history_tests;
 mod laws;
 mod out;
 mod row;
 mod sink;
-#[cfg(test)]
-mod tests;
 mod trace;
 mod write;
 mod write_watch;

@@ -32,7 +32,7 @@ pub struct WarpCounts {
 }
 
 impl WarpCounts {
-    ghost use Rattle.clk_warp.specs.Falls.{is_ended};
+    ghost use Rattle.clk_warp.specs.Falls.{is_started, is_ended};
     ghost use Rattle.clk_warp.specs.Counts.{progress_of, limits_of, AreCountsOf, AddsReading};
     ghost use Rattle.clk_warp.specs.CountSteps.{WithProgress, WithFall, Compares};
 
@@ -55,6 +55,14 @@ impl WarpCounts {
             source: Progress::new(),
             target: Progress::new(),
         }
+    }
+
+    /// Whether the side has made its first reading.
+    pub fn started(&self, side: Side) -> bool
+        ensures progress { result ≡ (progress_of side self.now).started }
+        ensures run { (l : _) (rs : _) → AreCountsOf l rs self.now → result ≡ is_started side rs }
+    {
+        self.progress(side).started
     }
 
     /// Whether the side has made its last turn.

@@ -25,15 +25,11 @@ mod laws;
 mod lock;
 mod outcome;
 mod pair;
-#[cfg(test)]
-mod pair_tests;
 mod progress;
 mod seat;
 mod section;
 mod side;
 mod state;
-#[cfg(test)]
-mod tests;
 mod view;
 mod worker;
 

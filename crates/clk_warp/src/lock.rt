@@ -18,7 +18,8 @@ use std::hint::spin_loop;
 use std::marker::Model;
 use std::snapshot::Snapshot;
 use std::sync::Wait;
-use std::thread::yield_now;
+use std::thread::{Parker, yield_now};
+use std::time::Duration;
 
 // Where the words are, and the slot.
 const NEXT: usize = 0;
@@ -31,6 +32,17 @@ const STATE: usize = 0;
 /// costs less than a change of sides at each turn, and has not made all of its own before the other side's thread has
 /// begun, so that a short run finds a warp more often.
 const PATIENCE: u32 = 512;
+
+/// The lock ticket from which on a side that finds the lock held takes a nap. A run that is so long has compared the
+/// counters both ways many times; from here on a side goes on alone for some hundred turns, which keeps one processor
+/// busy in place of two, and no word of the lock moves between them.
+const FIRST_NAP: u64 = 1_024;
+
+/// How often a side looks before it takes a nap: longer than the other one's section takes.
+const LOOKS_BEFORE_A_NAP: u32 = 64;
+
+/// How long a nap is, in microseconds. Linux adds its timer slack, 50 us where nothing else is set.
+const NAP_US: u64 = 20;
 
 /// How often a side looks whether it is served before it lets another thread run: two sides on one core have to go on.
 /// Letting go is a call of the system, so a side looks for longer than the other one's section takes.
@@ -115,8 +127,7 @@ impl TurnLock {
             let next = self.table.shared.load::<Look>(seat, NEXT);
             let serving = self.table.shared.load::<Look>(seat, SERVING);
             if next != serving && looks < PATIENCE {
-                looks += 1;
-                spin_loop();
+                looks = rest(rt, next, looks);
                 continue;
             }
             if next != u64::MAX
@@ -188,6 +199,16 @@ impl TurnLock {
         closed.free();
         state.unwrap()
     }
+}
+
+// Rests after a look at a lock that is held, and answers how many looks that makes: a nap is worth all of them.
+fn rest<R: Wait>(rt: &R, next: u64, looks: u32) -> u32 {
+    if next < FIRST_NAP || looks < LOOKS_BEFORE_A_NAP {
+        spin_loop();
+        return looks.saturating_add(1);
+    }
+    Parker::new().park_timeout(rt, Duration::from_micros(NAP_US));
+    PATIENCE
 }
 
 // The two seats of a new lock.

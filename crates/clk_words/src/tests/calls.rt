@@ -175,15 +175,6 @@ pub fn put(words: &Words, seat: &mut Seat, w: u32, old: i64, why: Why) -> Put
 }
 
 // Joins the seats that were split off to the first one, and ends.
-pub fn end_two(words: Words, first: Seat, a: Seat) -> Closed
-    requires first { (place_of first ≡ words) × (numbers_of first.view ≡ 0 ∷ []) × (first.view.made ≡ 2) }
-    requires second { (place_of a ≡ words) × (numbers_of a.view ≡ 1 ∷ []) }
-    ensures { result.start ≡ words.start }
-{
-    let whole = words.join(first, a);
-    words.finish(whole)
-}
-
 pub fn end_three(words: Words, first: Seat, a: Seat, b: Seat) -> Closed
     requires first { (place_of first ≡ words) × (numbers_of first.view ≡ 0 ∷ []) × (first.view.made ≡ 3) }
     requires second { (place_of a ≡ words) × (numbers_of a.view ≡ 1 ∷ []) }

@@ -1,5 +1,5 @@
 //! A watchdog that demotes two CPUs, under the reads of owners and of a reader, on four threads.
-ghost use Rattle.std.specs.Prelude.{◌≡◌, ◌<◌, [], ◌∷◌};
+ghost use Rattle.std.specs.Prelude.{◌≡◌, ◌<◌};
 ghost use Rattle.clk_num.specs.Range.{IsNear};
 ghost use Rattle.clk_words.specs.Histories.{opens_at};
 ghost use Rattle.clk_words.specs.Bounds.{opens_of, IsGtod, IsRaw, IsOffset, IsOpening, IsLiftValue};
@@ -9,7 +9,7 @@ ghost use Rattle.clk_words.specs.Told.{pair_cloned};
 ghost use Rattle.clk_words.specs.Held.{place_of};
 
 use crate::tests::calls::{TICK, after, local, opening_in};
-use crate::tests::threads::{Runner, are_chains, end_five, hired, joined_three, note};
+use crate::tests::threads::{Runner, all_steps, are_chains, end_five, hired, note};
 use crate::{Mode, Opening, Seat, SeatKind, Step, Why, Words};
 use std::alloc::AllocError;
 use std::thread::{Threads, join};
@@ -99,20 +99,23 @@ fn opened_at(start: &Opening, gtod: i64) -> i64
 }
 
 // The end of the stable mode.
-fn demote(words: &Words, mut seat: Seat, start: Opening) -> (Seat, (Step, Step))
-    requires own { place_of seat ≡ words.now }
-    requires may { MayDemote seat.view }
+fn demote(words: &Words, mut runner: Runner) -> Runner
+    requires own { place_of runner.seat ≡ words.now }
+    requires may { MayDemote runner.seat.view }
     requires cpus { words.now.start.cpus ≡ 2 }
-    requires start { (start ≡ words.now.start.opening) × (start.tick_raw ≡ opens_of start) }
-    requires offset { IsOffset (opens_of start) start.offset }
-    ensures own { place_of result.0 ≡ words.now }
-    ensures numbers { numbers_of result.0.view ≡ numbers_of seat.view }
+    requires start { (runner.start ≡ words.now.start.opening) × (runner.start.tick_raw ≡ opens_of runner.start) }
+    requires offset { IsOffset (opens_of runner.start) runner.start.offset }
+    ensures own { place_of result.seat ≡ words.now }
+    ensures numbers { numbers_of result.seat.view ≡ numbers_of runner.seat.view }
 {
-    words.publish_offset(&mut seat, start.offset);
-    copied_both(words, &mut seat, 40, after(&start, 30));
-    let lifts = lifted_both(words, &mut seat, opened_at(&start, 40));
-    words.publish_mode(&mut seat);
-    (seat, lifts)
+    let start = runner.start;
+    words.publish_offset(&mut runner.seat, start.offset);
+    copied_both(words, &mut runner.seat, 40, after(&start, 30));
+    let lifts = lifted_both(words, &mut runner.seat, opened_at(&start, 40));
+    words.publish_mode(&mut runner.seat);
+    note(&mut runner.log, lifts.0);
+    note(&mut runner.log, lifts.1);
+    runner
 }
 
 // A reading, which is noted if it is made.
@@ -147,26 +150,21 @@ fn read_on(words: &Words, mut runner: Runner) -> Runner
 fn demote_under<R: Threads + Sync>(
     rt: &R,
     words: &Words,
-    watch: Seat,
-    start: Opening,
+    watch: Runner,
     a: Runner,
-) -> ((Seat, (Step, Step)), Runner)
-    requires own { (place_of watch ≡ words.now) × (place_of a.seat ≡ words.now) }
-    requires may { MayDemote watch.view }
+) -> (Runner, Runner)
+    requires own { (place_of watch.seat ≡ words.now) × (place_of a.seat ≡ words.now) }
+    requires may { MayDemote watch.seat.view }
     requires cpus { words.now.start.cpus ≡ 2 }
-    requires offset { IsOffset (opens_of start) start.offset }
+    requires offset { IsOffset (opens_of watch.start) watch.start.offset }
     requires reading { IsReadingKind a.seat.view.kind }
-    requires start { (start ≡ words.now.start.opening) × (start.tick_raw ≡ opens_of start) }
+    requires start { (watch.start ≡ words.now.start.opening) × (watch.start.tick_raw ≡ opens_of watch.start) }
     requires start_a { (a.start ≡ words.now.start.opening) × (a.start.tick_raw ≡ opens_of a.start) }
-    ensures own { (place_of result.0.0 ≡ words.now) × (place_of result.1.seat ≡ words.now) }
-    ensures first { numbers_of result.0.0.view ≡ numbers_of watch.view }
+    ensures own { (place_of result.0.seat ≡ words.now) × (place_of result.1.seat ≡ words.now) }
+    ensures first { numbers_of result.0.seat.view ≡ numbers_of watch.seat.view }
     ensures second { numbers_of result.1.seat.view ≡ numbers_of a.seat.view }
 {
-    join(
-        rt,
-        move || demote(words, watch, start),
-        move || read_on(words, a),
-    )
+    join(rt, move || demote(words, watch), move || read_on(words, a))
 }
 
 fn read_both<R: Threads + Sync>(rt: &R, words: &Words, a: Runner, b: Runner) -> (Runner, Runner)
@@ -192,13 +190,28 @@ fn lift(word: u32) -> Step {
     }
 }
 
+// The lifts are the first of these steps, and each other one found a word no lower than they left it.
+fn begin_with_lifts(steps: &[Step]) -> bool {
+    for (i, step) in steps.iter().enumerate() {
+        let right = match i {
+            0 => *step == lift(0),
+            1 => *step == lift(1),
+            _ => step.old >= 50,
+        };
+        if !right {
+            return false;
+        }
+    }
+    steps.len() >= 2
+}
+
 // The lifts are the only steps that found the opening, so each begins its word's history.
 #[test]
 fn lifts_come_first(rt: HostRuntime) -> Result<(), AllocError> {
     let alloc = rt.alloc();
     let start = stable(10, 10);
     let (words, mut first) = Words::new(alloc, 2, TICK, start)?;
-    let watch = words.split(&mut first, SeatKind::Watch);
+    let watch = hired(alloc, &words, &mut first, SeatKind::Watch, false, 0, start);
     let a = hired(
         alloc,
         &words,
@@ -207,7 +220,7 @@ fn lifts_come_first(rt: HostRuntime) -> Result<(), AllocError> {
         true,
         1,
         start,
-    )?;
+    );
     let b = hired(
         alloc,
         &words,
@@ -216,7 +229,7 @@ fn lifts_come_first(rt: HostRuntime) -> Result<(), AllocError> {
         true,
         0,
         start,
-    )?;
+    );
     let c = hired(
         alloc,
         &words,
@@ -225,20 +238,14 @@ fn lifts_come_first(rt: HostRuntime) -> Result<(), AllocError> {
         false,
         1,
         start,
-    )?;
-    let (((watch, lifts), a), (b, c)) = join(
+    );
+    let ((watch, a), (b, c)) = join(
         &rt,
-        || demote_under(&rt, &words, watch, start, a),
+        || demote_under(&rt, &words, watch, a),
         || read_both(&rt, &words, b, c),
     );
-    assert_eq!(rt; lifts, (lift(0), lift(1)));
-    let mut steps = vec![in alloc; lifts.0, lifts.1]?;
-    for log in [a.log, b.log, c.log] {
-        assert!(rt; log.iter().all(|step| step.old >= 50));
-        steps.extend_from_slice(log.as_slice())?;
-    }
-    let front = joined_three(&words, first, watch, a.seat);
-    let closed = end_five(words, front, b.seat, c.seat);
-    assert!(rt; are_chains(&closed, steps));
+    let (closed, logs) = end_five(words, first, watch, a, b, c);
+    let steps = all_steps(alloc, &logs)?;
+    assert!(rt; begin_with_lifts(steps.as_slice()) && are_chains(&closed, steps));
     Ok(())
 }

@@ -1,5 +1,5 @@
 //! Two owners and two readers, on threads of their own.
-ghost use Rattle.std.specs.Prelude.{◌≡◌, ◌+◌, ◌^◌, ◌<◌, [], ◌∷◌, IfOk, IsTrue, OnOk};
+ghost use Rattle.std.specs.Prelude.{◌≡◌, ◌+◌, ◌^◌, ◌<◌, [], ◌∷◌, IsTrue};
 ghost use Rattle.clk_words.specs.Kinds.{cpu_of};
 ghost use Rattle.clk_words.specs.Histories.{opens_at};
 ghost use Rattle.clk_words.specs.Bounds.{opens_of, IsGtod, IsRaw};
@@ -78,7 +78,7 @@ fn stamp_if(words: &Words, seat: &mut Seat, stamps: bool, gtod: i64, raw: i64)
     }
 }
 
-// There is room for each step.
+// A step that finds no memory is left out.
 pub fn note(log: &mut Vec<Step>, step: Step) {
     let _ = log.push(step);
 }
@@ -124,6 +124,7 @@ fn two<R: Threads + Sync>(rt: &R, words: &Words, a: Runner, b: Runner) -> (Runne
     join(rt, move || run(words, a), move || run(words, b))
 }
 
+// A runner that has made no step, whose seat is split off here.
 pub fn hired(
     alloc: Global,
     words: &Words,
@@ -132,24 +133,36 @@ pub fn hired(
     stamps: bool,
     other: u32,
     start: Opening,
-) -> Result<Runner, AllocError>
+) -> Runner
     requires own { place_of first.old ≡ words.now }
     requires right { MaySplit first.old.view kind }
     requires cpu { cpu_of kind < words.now.start.cpus }
     requires room { first.old.view.made + 1 < 2 ^ 32 }
-    ensures old { OnOk result (first.new ≡ record { table = words.now.table; view = giver_view kind first.old.view }) }
-    ensures new { IfOk result (λ r. r.seat ≡ record { table = words.now.table; view = given_view kind first.old.view }) }
-    ensures rest { IfOk result (λ r. (r.stamps ≡ stamps) × (r.other ≡ other) × (r.start ≡ start)) }
+    ensures old { first.new ≡ record { table = words.now.table; view = giver_view kind first.old.view } }
+    ensures new { result.seat ≡ record { table = words.now.table; view = given_view kind first.old.view } }
+    ensures rest { (result.stamps ≡ stamps) × (result.other ≡ other) × (result.start ≡ start) }
 {
-    let log = Vec::with_capacity(alloc, 2 * CALLS as usize)?;
-    let seat = words.split(first, kind);
-    Ok(Runner {
-        seat,
+    Runner {
+        seat: words.split(first, kind),
         stamps,
         other,
         start,
-        log,
-    })
+        log: Vec::new(alloc),
+    }
+}
+
+// The steps that go from the opening of a word to the value that is answered, each from where the one before ended.
+fn chained(steps: &[Step], w: u32) -> Option<i64> {
+    let mut last = 20;
+    for step in steps {
+        if step.word == w {
+            if step.old != last {
+                return None;
+            }
+            last = step.new;
+        }
+    }
+    Some(last)
 }
 
 // On each word the steps, sorted, go from its opening to its last value.
@@ -157,21 +170,17 @@ pub fn are_chains(closed: &Closed, mut steps: Vec<Step>) -> bool
     requires { closed.now.start.cpus ≡ 2 }
 {
     steps.sort_unstable_by_key(|s| (s.word, s.new, s.old >= s.new, s.by, s.call));
-    for w in 0..2 {
-        let mut last = 20;
-        for step in &steps {
-            if step.word == w {
-                if step.old != last {
-                    return false;
-                }
-                last = step.new;
-            }
-        }
-        if closed.last(w) != last {
-            return false;
-        }
+    let steps = steps.as_slice();
+    chained(steps, 0) == Some(closed.last(0)) && chained(steps, 1) == Some(closed.last(1))
+}
+
+// The steps of all threads.
+pub fn all_steps(alloc: Global, logs: &[Vec<Step>; 4]) -> Result<Vec<Step>, AllocError> {
+    let mut steps = Vec::new(alloc);
+    for log in logs {
+        steps.extend_from_slice(log.as_slice())?;
     }
-    true
+    Ok(steps)
 }
 
 #[test]
@@ -187,7 +196,7 @@ fn steps_of_four_threads_are_chains(rt: HostRuntime) -> Result<(), AllocError> {
         true,
         1,
         start,
-    )?;
+    );
     let b = hired(
         alloc,
         &words,
@@ -196,7 +205,7 @@ fn steps_of_four_threads_are_chains(rt: HostRuntime) -> Result<(), AllocError> {
         true,
         0,
         start,
-    )?;
+    );
     let c = hired(
         alloc,
         &words,
@@ -205,7 +214,7 @@ fn steps_of_four_threads_are_chains(rt: HostRuntime) -> Result<(), AllocError> {
         false,
         1,
         start,
-    )?;
+    );
     let d = hired(
         alloc,
         &words,
@@ -214,20 +223,15 @@ fn steps_of_four_threads_are_chains(rt: HostRuntime) -> Result<(), AllocError> {
         false,
         0,
         start,
-    )?;
+    );
     let ((a, b), (c, d)) = join(&rt, || two(&rt, &words, a, b), || two(&rt, &words, c, d));
-    let mut steps = Vec::new(alloc);
-    for log in [a.log, b.log, c.log, d.log] {
-        steps.extend_from_slice(log.as_slice())?;
-    }
-    assert_eq!(rt; steps.len(), 8 * CALLS as usize);
-    let front = joined_three(&words, first, a.seat, b.seat);
-    let closed = end_five(words, front, c.seat, d.seat);
-    assert!(rt; are_chains(&closed, steps));
+    let (closed, logs) = end_five(words, first, a, b, c, d);
+    let steps = all_steps(alloc, &logs)?;
+    assert!(rt; steps.len() == 8 * CALLS as usize && are_chains(&closed, steps));
     Ok(())
 }
 
-pub fn joined_three(words: &Words, first: Seat, a: Seat, b: Seat) -> Seat
+fn joined_three(words: &Words, first: Seat, a: Seat, b: Seat) -> Seat
     requires first { (place_of first ≡ words.now) × (numbers_of first.view ≡ 0 ∷ []) × (first.view.made ≡ 5) }
     requires a { (place_of a ≡ words.now) × (numbers_of a.view ≡ 1 ∷ []) }
     requires b { (place_of b ≡ words.now) × (numbers_of b.view ≡ 2 ∷ []) }
@@ -238,7 +242,7 @@ pub fn joined_three(words: &Words, first: Seat, a: Seat, b: Seat) -> Seat
     words.join(words.join(first, a), b)
 }
 
-pub fn end_five(words: Words, front: Seat, c: Seat, d: Seat) -> Closed
+fn end_joined(words: Words, front: Seat, c: Seat, d: Seat) -> Closed
     requires front { (place_of front ≡ words) × (numbers_of front.view ≡ 0 ∷ 1 ∷ 2 ∷ []) × (front.view.made ≡ 5) }
     requires c { (place_of c ≡ words) × (numbers_of c.view ≡ 3 ∷ []) }
     requires d { (place_of d ≡ words) × (numbers_of d.view ≡ 4 ∷ []) }
@@ -246,4 +250,25 @@ pub fn end_five(words: Words, front: Seat, c: Seat, d: Seat) -> Closed
 {
     let whole = words.join(words.join(front, c), d);
     words.finish(whole)
+}
+
+// Joins four threads' seats to the first one, and ends. The steps of each are left.
+pub fn end_five(
+    words: Words,
+    first: Seat,
+    a: Runner,
+    b: Runner,
+    c: Runner,
+    d: Runner,
+) -> (Closed, [Vec<Step>; 4])
+    requires first { (place_of first ≡ words) × (numbers_of first.view ≡ 0 ∷ []) × (first.view.made ≡ 5) }
+    requires a { (place_of a.seat ≡ words) × (numbers_of a.seat.view ≡ 1 ∷ []) }
+    requires b { (place_of b.seat ≡ words) × (numbers_of b.seat.view ≡ 2 ∷ []) }
+    requires c { (place_of c.seat ≡ words) × (numbers_of c.seat.view ≡ 3 ∷ []) }
+    requires d { (place_of d.seat ≡ words) × (numbers_of d.seat.view ≡ 4 ∷ []) }
+    ensures { result.0.start ≡ words.start }
+{
+    let front = joined_three(&words, first, a.seat, b.seat);
+    let closed = end_joined(words, front, c.seat, d.seat);
+    (closed, [a.log, b.log, c.log, d.log])
 }

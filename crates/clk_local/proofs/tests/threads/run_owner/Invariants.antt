@@ -1,6 +1,5 @@
 use Rattle.std.proofs.Common.{◌≡◌, ◌+◌, ◌*◌}
-use Rattle.clk_ticket.specs.Time.{share_of}
-use Rattle.clk_words.specs.Knowing.{HasFoundPerCpu, numbers_of}
+use Rattle.clk_words.specs.Knowing.{HasFoundPerCpu}
 use Rattle.clk_local.specs.Context.{IsUsable, MayStamp}
 use Rattle.clk_local.specs.declared.tests.threads.TheConstants.{OWNERS}
 use Rattle.clk_local.proofs.tests.threads.run_owner.Given as goal
@@ -9,14 +8,7 @@ use Rattle.clk_local.proofs.tests.threads.run_owner.Given as goal
 abbrev pub invariant-loop-call : goal.invariant-loop-call
 invariant-loop-call l = record {
   usable : IsUsable (λ k s. s.latch ≡ k) (λ s. s.epoch) l.ctx;
-  words : l.ctx.words.now ≡ l.initial.ctx.words.now;
-  latch : l.ctx.epochs.now ≡ l.initial.ctx.epochs.now;
-  tickets : l.ctx.tickets.now ≡ l.initial.ctx.tickets.now;
-  numbers : numbers_of l.ctx.seat.view ≡ numbers_of l.initial.ctx.seat.view;
-  made : l.ctx.seat.view.made ≡ l.initial.ctx.seat.view.made;
   found : HasFoundPerCpu l.ctx.seat.view;
-  table : l.ctx.time.table ≡ l.initial.ctx.time.table;
   stamp : MayStamp l.ctx.seat.view;
   left : l.ctx.time.left + 4 * l.call ≡ OWNERS;
-  share : share_of l.ctx.time ≡ share_of l.initial.ctx.time;
 }
