@@ -9,10 +9,10 @@ use Rattle.clk_machine.specs.Limits.{IsRateInKhz, AreJumps, IsWithinLimits}
 use Rattle.clk_machine.specs.Time.{time_at, count_at, cpu_at, counter_at}
 use Rattle.clk_machine.proofs.Halving.{jumped_near}
 use Rattle.clk_machine.proofs.Bounds.{time_below, cycles_few, cpu_in_range, count_of_cpu}
-use Rattle.clk_warp.specs.declared.side.Side.{Side}
-use Rattle.clk_warp.specs.declared.side.Side.TheVariants.{Source, Target}
-use Rattle.clk_warp.specs.declared.side.WarpReading.{WarpReading}
-use Rattle.clk_warp.specs.Run.{cpu_of, side_adjust}
+use Rattle.clk_record.specs.declared.warp.Side.{Side}
+use Rattle.clk_record.specs.declared.warp.Side.TheVariants.{Source, Target}
+use Rattle.clk_record.specs.declared.warp.WarpReading.{WarpReading}
+use Rattle.clk_record.specs.WarpLimits.{cpu_of, side_adjust}
 
 -- a counter goes at most 11 * 2^41 cycles from where it began
 count_high : (start : ℤ) (c : CpuPlan) (time : ℕ) → IsRateInKhz c.khz → AreJumps c.jumps → time < 3 * 2 ^ 39

@@ -3,14 +3,15 @@ use Rattle.std.proofs.Common.{◌≡◌, ℕ, ◌+◌, ◌-◌, ◌*◌, ◌/◌
 use Rattle.std.proofs.lemmas.Bool.{ltb-true, ltb-false}
 use Rattle.std.proofs.lemmas.List.{length_push}
 use Rattle.clk_machine.specs.Plan.{Plan}
-use Rattle.clk_warp.specs.declared.side.Side.{Side}
-use Rattle.clk_warp.specs.declared.side.Side.TheVariants.{Source, Target}
-use Rattle.clk_warp.specs.declared.side.WarpReading.{WarpReading}
-use Rattle.clk_warp.specs.declared.side.WarpRun.{WarpRun}
-use Rattle.clk_warp.specs.Sides.{is_same, of_side}
-use Rattle.clk_warp.specs.Falls.{Limits, is_started, start_of, next_turn, is_over, is_ended, AreInTurn}
-use Rattle.clk_warp.specs.Warps.{IsWarpRun}
-use Rattle.clk_warp.specs.Run.{limits_in, most_readings}
+use Rattle.clk_record.specs.declared.warp.Side.{Side}
+use Rattle.clk_record.specs.declared.warp.Side.TheVariants.{Source, Target}
+use Rattle.clk_record.specs.declared.warp.WarpReading.{WarpReading}
+use Rattle.clk_record.specs.declared.warp.WarpRun.{WarpRun}
+use Rattle.clk_record.specs.Sides.{is_same, of_side}
+use Rattle.clk_record.specs.Falls.{Limits, is_started, start_of, next_turn, is_over, is_ended, AreInTurn}
+use Rattle.clk_record.specs.Warps.{IsWarpRun}
+use Rattle.clk_record.specs.WarpLimits.{limits_in}
+use Rattle.clk_warp.specs.Run.{most_readings}
 use Rattle.clk_warp.proofs.Meaning.{same_then}
 use Rattle.clk_warp.proofs.Counting.{same_side}
 use Rattle.clk_warp.proofs.Placing.{mine_push, theirs_push, ended_theirs, ended_mine}

@@ -11,18 +11,20 @@ use Rattle.clk_num.specs.Range.{IsNear}
 use Rattle.clk_ticket.specs.Time.{Time}
 use Rattle.clk_machine.specs.Plan.{Plan, cpu_count}
 use Rattle.clk_machine.specs.Limits.{IsWithinLimits}
-use Rattle.clk_warp.specs.declared.side.WarpReading.{WarpReading}
-use Rattle.clk_warp.specs.declared.side.WarpRun.{WarpRun}
-use Rattle.clk_warp.specs.declared.outcome.Verdict.{Verdict}
-use Rattle.clk_warp.specs.declared.outcome.Verdict.TheVariants as verdict
-use Rattle.clk_warp.specs.Verdicts.{adjustment, verdict_of}
-use Rattle.clk_warp.specs.Run.{limits_in, most_readings}
+use Rattle.clk_record.specs.declared.warp.WarpReading.{WarpReading}
+use Rattle.clk_record.specs.declared.warp.WarpRun.{WarpRun}
+use Rattle.clk_record.specs.declared.verdict.Verdict.{Verdict}
+use Rattle.clk_record.specs.declared.verdict.Verdict.TheVariants as verdict
+use Rattle.clk_record.specs.Verdicts.{adjustment, verdict_of}
+use Rattle.clk_record.specs.WarpLimits.{limits_in}
+use Rattle.clk_warp.specs.Run.{most_readings}
 use Rattle.clk_warp.specs.Pairs.{DrawsFor, IsPaired}
-use Rattle.clk_adjust.specs.declared.up.UpOutcome.{UpOutcome}
-use Rattle.clk_adjust.specs.declared.up.CpuUp.{CpuUp}
+use Rattle.clk_record.specs.declared.up.UpOutcome.{UpOutcome}
+use Rattle.clk_record.specs.declared.up.CpuUp.{CpuUp}
 use Rattle.clk_machine.specs.declared.parts.BringUpPart.{BringUpPart}
-use Rattle.clk_adjust.specs.BroughtUp.{IsRunOfCpu, adjusted, adjusted_by, AreRunsOf, most_runs, AreMadeAgain, Decides, IsTested}
-use Rattle.clk_adjust.specs.Tickets.{readings_in, cpu_tickets, HasDrawn}
+use Rattle.clk_record.specs.BroughtUp.{IsRunOfCpu, adjusted, adjusted_by, AreRunsOf, most_runs, AreMadeAgain, Decides, IsTested}
+use Rattle.clk_record.specs.WarpReadings.{readings_in}
+use Rattle.clk_adjust.specs.Tickets.{cpu_tickets, HasDrawn}
 use Rattle.clk_adjust.specs.Outcomes.{Brings}
 use Rattle.clk_adjust.proofs.Counters.{readings_by}
 use Rattle.clk_adjust.proofs.Sizes.{IsSmall, run_small}

@@ -2,12 +2,12 @@
 use Rattle.std.proofs.Common.{ℕ, ◌-◌, ◌≤◌, Bool, true, false, cond, not, List, [], ◌∷◌, ◌++◌, fold, max, arith}
 use Rattle.std.specs.List.{All}
 use Rattle.std.proofs.lemmas.List.Elements.{All-nil, All-cons, All-head, All-tail, All-push, All-append, All-filter}
-use Rattle.clk_warp.specs.declared.side.Side.TheVariants.{Target}
-use Rattle.clk_warp.specs.declared.side.WarpReading.{WarpReading}
-use Rattle.clk_warp.specs.declared.side.WarpRun.{WarpRun}
-use Rattle.clk_warp.specs.Sides.{turns_of}
-use Rattle.clk_warp.specs.Falls.{Limits, Fall, each_after, turn_before, is_fall, falls, greatest}
-use Rattle.clk_warp.specs.Warps.{IsWarpRun}
+use Rattle.clk_record.specs.declared.warp.Side.TheVariants.{Target}
+use Rattle.clk_record.specs.declared.warp.WarpReading.{WarpReading}
+use Rattle.clk_record.specs.declared.warp.WarpRun.{WarpRun}
+use Rattle.clk_record.specs.Sides.{turns_of}
+use Rattle.clk_record.specs.Falls.{Limits, Fall, each_after, turn_before, is_fall, falls, greatest}
+use Rattle.clk_record.specs.Warps.{IsWarpRun}
 use Rattle.clk_warp.proofs.Meaning.{seen_is_at_most_greatest}
 
 last_below : (n at : ℕ) (rs : List WarpReading) → at ≤ n → All (λ r. r.tsc ≤ n) rs → fold (λ (last : ℕ) (r : WarpReading). r.tsc) at rs ≤ n

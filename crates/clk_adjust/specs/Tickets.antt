@@ -4,19 +4,13 @@ use Rattle.std.specs.List.{All}
 use Rattle.clk_ticket.specs.Time.{Time}
 use Rattle.clk_machine.specs.declared.parts.BringUpPart.{BringUpPart}
 use Rattle.clk_machine.specs.Plan.{Plan, cpu_count}
-use Rattle.clk_warp.specs.declared.side.WarpReading.{WarpReading}
-use Rattle.clk_warp.specs.declared.side.WarpRun.{WarpRun}
+use Rattle.clk_record.specs.declared.warp.WarpReading.{WarpReading}
+use Rattle.clk_record.specs.declared.warp.WarpRun.{WarpRun}
 use Rattle.clk_warp.specs.Run.{most_readings}
 use Rattle.clk_warp.specs.Pairs.{DrawsFor}
-use Rattle.clk_adjust.specs.declared.up.CpuUp.{CpuUp}
-use Rattle.clk_adjust.specs.BroughtUp.{most_runs, IsRunOfCpu}
-
--- the readings of some runs, and those of some CPUs, in order
-abbrev pub readings_in : List WarpRun → List WarpReading
-readings_in runs = flat_map (λ run. run.readings.items) runs
-
-abbrev pub all_readings : List CpuUp → List WarpReading
-all_readings ups = flat_map (λ up. readings_in up.runs.items) ups
+use Rattle.clk_record.specs.declared.up.CpuUp.{CpuUp}
+use Rattle.clk_record.specs.BroughtUp.{most_runs, IsRunOfCpu}
+use Rattle.clk_record.specs.WarpReadings.{readings_in}
 
 -- the most that the test of a CPU draws, and those of all CPUs but the first
 abbrev pub cpu_tickets : Plan → Option BringUpPart → ℕ

@@ -19,7 +19,6 @@
 mod cpus;
 mod rooms;
 mod runs;
-mod up;
 
 pub use cpus::{bring_up, bring_up_but};
-pub use up::{BroughtUp, CpuUp, UpOutcome};
+pub use clk_record::{BroughtUp, CpuUp, UpOutcome};

@@ -1,7 +1,7 @@
 //! How a machine's CPUs are tested, and the memory for their runs.
 ghost use Rattle.std.specs.Prelude.{◌≡◌, ◌≤◌, Some, IfOk, length};
 ghost use Rattle.std.specs.List.{All};
-ghost use Rattle.clk_adjust.specs.BroughtUp.{most_runs as most_runs_of, is_passed_over as is_passed, test_of as test_by};
+ghost use Rattle.clk_record.specs.BroughtUp.{most_runs as most_runs_of, is_passed_over as is_passed, test_of as test_by};
 ghost use Rattle.clk_adjust.specs.Outcomes.{runs_of as runs_by, HasRoom};
 
 use clk_machine::{BringUpPart, Machine};

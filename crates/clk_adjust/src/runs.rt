@@ -1,12 +1,12 @@
 //! The test of one CPU: its warp runs, each by the sum of the adjustments before it.
 ghost use Rattle.std.specs.Prelude.{◌≡◌, ◌+◌, ◌<◌, ◌≤◌, false, Some, IfOk};
 ghost use Rattle.clk_machine.specs.Plan.{cpu_count};
-ghost use Rattle.clk_adjust.specs.BroughtUp.{most_runs as most_runs_of};
+ghost use Rattle.clk_record.specs.BroughtUp.{most_runs as most_runs_of};
 ghost use Rattle.clk_adjust.specs.Tickets.{cpu_tickets, HasDrawn};
 ghost use Rattle.clk_adjust.specs.Outcomes.{HasRoom, Brings};
 
 use crate::rooms::most_runs;
-use crate::up::{CpuUp, UpOutcome};
+use clk_record::{CpuUp, UpOutcome};
 use clk_machine::{BringUpPart, Gate, Machine};
 use clk_num::List;
 use clk_ticket::{TicketTable, TimeSeat};

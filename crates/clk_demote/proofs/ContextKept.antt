@@ -20,9 +20,9 @@ use Rattle.clk_latch.specs.Epoch.{Epoch}
 use Rattle.clk_local.specs.Context.{BeginsAtBase}
 use Rattle.clk_local.proofs.Raising.{raw_near, still_base}
 use Rattle.clk_demote.specs.declared.context.WatchCtx.{WatchCtx}
-use Rattle.clk_demote.specs.declared.events.StableStamp.{StableStamp}
+use Rattle.clk_record.specs.declared.stable.StableStamp.{StableStamp}
 use Rattle.clk_demote.specs.Context.{IsUnlifted, IsUsable}
-use Rattle.clk_demote.specs.Demotions.{offset_by}
+use Rattle.clk_record.specs.Demotions.{offset_by}
 use Rattle.clk_demote.specs.Stamping.{ReadsAt, epoch_at}
 use Rattle.clk_demote.proofs.Shifting.{offset_near}
 

@@ -5,10 +5,10 @@ use Rattle.clk_words.specs.Knowing.{IsGood}
 use Rattle.clk_words.specs.Told.{published}
 use Rattle.clk_machine.specs.Plan.{cpu_count}
 use Rattle.clk_machine.specs.declared.reading.RawReading.{RawReading}
-use Rattle.clk_demote.specs.declared.events.Demotion.{Demotion}
-use Rattle.clk_demote.specs.declared.events.StableStamp.{StableStamp}
+use Rattle.clk_record.specs.declared.stable.Demotion.{Demotion}
+use Rattle.clk_record.specs.declared.stable.StableStamp.{StableStamp}
 use Rattle.clk_demote.specs.Context.{Site, Known}
-use Rattle.clk_demote.specs.Demotions.{IsDemotion}
+use Rattle.clk_record.specs.Demotions.{IsDemotion}
 use Rattle.clk_demote.specs.Lifts.{lifts_of, lifted}
 use Rattle.clk_demote.specs.Shows.{TakesStamp, ShowsStamp, ShowsDemotion}
 use Rattle.clk_demote.specs.Stamping.{with_pair, pair_stored, pairs_stored}

@@ -6,9 +6,9 @@ use Rattle.clk_num.specs.Wrapping.{IsValue, wrap, above}
 use Rattle.clk_num.proofs.Wraps.{wrapped}
 use Rattle.clk_num.proofs.Heights.{wrap_fits, sum_is, difference_is}
 use Rattle.clk_words.specs.Bounds.{IsGtod, IsOffset, IsLiftValue}
-use Rattle.clk_demote.specs.declared.events.Demotion.{Demotion}
-use Rattle.clk_demote.specs.declared.events.StableStamp.{StableStamp}
-use Rattle.clk_demote.specs.Demotions.{offset_by, IsDemotion, DemotionsShiftByDrift}
+use Rattle.clk_record.specs.declared.stable.Demotion.{Demotion}
+use Rattle.clk_record.specs.declared.stable.StableStamp.{StableStamp}
+use Rattle.clk_record.specs.Demotions.{offset_by, IsDemotion, DemotionsShiftByDrift}
 
 -- a sum that was wrapped already
 wrap_first : (a b : ℤ) → wrap (wrap a -ℤ b) ≡ wrap (a -ℤ b)

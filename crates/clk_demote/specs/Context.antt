@@ -11,8 +11,8 @@ use Rattle.clk_machine.specs.Records.{above_base}
 use Rattle.clk_latch.specs.Epoch.{Epoch}
 use Rattle.clk_local.specs.Context.{BeginsAtBase}
 use Rattle.clk_demote.specs.declared.context.WatchCtx.{WatchCtx}
-use Rattle.clk_demote.specs.declared.events.StableStamp.{StableStamp}
-use Rattle.clk_demote.specs.Demotions.{offset_by}
+use Rattle.clk_record.specs.declared.stable.StableStamp.{StableStamp}
+use Rattle.clk_record.specs.Demotions.{offset_by}
 
 -- what the watchdog's calls do not change: the machine, its CPUs' adjustments, and what a stable reading adds
 pub record Site : Type 0 where

@@ -1,5 +1,5 @@
 pub mod Context
-pub mod Demotions
+pub use Rattle.clk_record.specs.Demotions
 pub mod Lifts
 pub mod Shows
 pub mod Stamping

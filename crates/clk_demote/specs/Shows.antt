@@ -13,10 +13,10 @@ use Rattle.clk_machine.specs.declared.reading.RawReading.{RawReading}
 use Rattle.clk_latch.specs.Epoch.{Epoch}
 use Rattle.clk_latch.specs.Calls.{DrawsTicket}
 use Rattle.clk_local.specs.Raising.{shown_on}
-use Rattle.clk_demote.specs.declared.events.StableStamp.{StableStamp}
-use Rattle.clk_demote.specs.declared.events.Demotion.{Demotion}
+use Rattle.clk_record.specs.declared.stable.StableStamp.{StableStamp}
+use Rattle.clk_record.specs.declared.stable.Demotion.{Demotion}
 use Rattle.clk_demote.specs.Context.{Site, Known}
-use Rattle.clk_demote.specs.Demotions.{offset_by, IsDemotion}
+use Rattle.clk_record.specs.Demotions.{offset_by, IsDemotion}
 use Rattle.clk_demote.specs.Lifts.{lifts_of, lifted}
 use Rattle.clk_demote.specs.Stamping.{ReadsAt, HasPair, pair_stored, pairs_stored}
 

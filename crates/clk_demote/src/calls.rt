@@ -8,13 +8,13 @@ ghost use Rattle.clk_words.specs.Knowing.{IsGood, HasCloned, HasFoundPerCpu, Has
 ghost use Rattle.clk_machine.specs.Plan.{cpu_count};
 ghost use Rattle.clk_local.specs.Context.{Spends};
 ghost use Rattle.clk_demote.specs.Context.{site_of, known_of, IsSeated, IsUsable, Keeps, IsUnlifted};
-ghost use Rattle.clk_demote.specs.Demotions.{OpensLessDrift};
+ghost use Rattle.clk_record.specs.Demotions.{OpensLessDrift};
 ghost use Rattle.clk_demote.specs.Stamping.{pairs_stored};
 ghost use Rattle.clk_demote.specs.Lifts.{lifts_of, lifted};
 ghost use Rattle.clk_demote.specs.Shows.{ShowsStamp, ShowsStableStamp, ShowsDemotion};
 
 use crate::context::WatchCtx;
-use crate::events::{Demotion, StableStamp};
+use clk_record::{Demotion, StableStamp};
 use crate::latches::read_at;
 use crate::opening::{demotion_after, stable_offset};
 use clk_latch::Epochs;

@@ -1,5 +1,5 @@
 //! What the watchdog calls with: its seats and their objects.
-use crate::events::StableStamp;
+use clk_record::StableStamp;
 use clk_latch::Epochs;
 use clk_machine::Machine;
 use clk_num::List;

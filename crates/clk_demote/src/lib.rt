@@ -20,7 +20,6 @@
 
 mod calls;
 mod context;
-mod events;
 mod latches;
 mod laws;
 mod opening;
@@ -29,6 +28,6 @@ mod tests;
 
 pub use calls::{demote, stable_stamp};
 pub use context::WatchCtx;
-pub use events::{Demotion, StableStamp};
+pub use clk_record::{Demotion, StableStamp};
 pub use laws::demotions_shift_by_drift;
 pub use opening::{demotion_after, stable_offset};

@@ -1,8 +1,8 @@
 //! The offset of a stable stamp, and where the clock opens at a demotion.
 ghost use Rattle.std.specs.Prelude.{◌≡◌};
-ghost use Rattle.clk_demote.specs.Demotions.{offset_by, IsDemotion};
+ghost use Rattle.clk_record.specs.Demotions.{offset_by, IsDemotion};
 
-use crate::events::{Demotion, StableStamp};
+use clk_record::{Demotion, StableStamp};
 use clk_machine::RawReading;
 use clk_num::above;
 

@@ -10,7 +10,7 @@ ghost use Rattle.clk_words.specs.Held.{place_of};
 ghost use Rattle.clk_words.specs.Knowing.{IsReadingKind, MayDemote};
 ghost use Rattle.clk_words.specs.Views.{first_view, giver_view, given_view};
 ghost use Rattle.clk_words.specs.declared.kind.SeatKind.TheVariants.{Watch};
-ghost use Rattle.clk_words.specs.declared.opening.Mode.TheVariants.{Stable};
+ghost use Rattle.clk_record.specs.declared.mode.Mode.TheVariants.{Stable};
 ghost use Rattle.clk_local.specs.Context.{BeginsAtBase};
 ghost use Rattle.clk_demote.specs.Context.{IsUsable};
 

@@ -7,9 +7,9 @@ use Rattle.clk_num.specs.Wrapping.{IsValue, wrap}
 use Rattle.clk_num.proofs.Wraps.{wrapped}
 use Rattle.clk_num.proofs.Heights.{wrap_fits}
 use Rattle.clk_machine.specs.Plan.{Plan}
-use Rattle.clk_demote.specs.declared.events.StableStamp.{StableStamp}
-use Rattle.clk_demote.specs.declared.events.Demotion.{Demotion}
-use Rattle.clk_demote.specs.Demotions.{OpensLessDrift}
+use Rattle.clk_record.specs.declared.stable.StableStamp.{StableStamp}
+use Rattle.clk_record.specs.declared.stable.Demotion.{Demotion}
+use Rattle.clk_record.specs.Demotions.{OpensLessDrift}
 use Rattle.clk_demote.proofs.Shifting.{shift_by_drift}
 use Rattle.clk_trace.specs.Checks.{Visit, listed, visits_of}
 use Rattle.clk_trace.specs.Standing.{is_stable, demotion_by, begins_stable, either_demotion}

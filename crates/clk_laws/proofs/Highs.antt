@@ -12,8 +12,8 @@ use Rattle.clk_base.specs.Walk.{EachFrom}
 use Rattle.clk_num.specs.Listed.{Listed}
 use Rattle.clk_num.specs.Wrapping.{above, IsNotBelow}
 use Rattle.clk_num.proofs.Heights.{above_same, raise_rises}
-use Rattle.clk_words.specs.declared.step.Step.{Step}
-use Rattle.clk_words.specs.Targets.{target}
+use Rattle.clk_record.specs.declared.step.Step.{Step}
+use Rattle.clk_record.specs.Targets.{target}
 use Rattle.clk_machine.specs.Plan.{Plan}
 use Rattle.clk_trace.specs.LawfulTrace.{IsLawful}
 use Rattle.clk_trace.specs.LegalHistory.{ReachesTarget, IsLegalHistory}

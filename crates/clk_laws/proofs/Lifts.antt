@@ -4,8 +4,8 @@ use Rattle.std.proofs.lemmas.Int.{ints}
 use Rattle.clk_base.specs.Walk.{EachFrom}
 use Rattle.clk_num.specs.Wrapping.{above, IsAbove, raise}
 use Rattle.clk_num.proofs.Heights.{raise_is}
-use Rattle.clk_words.specs.declared.step.Step.{Step}
-use Rattle.clk_demote.specs.declared.events.Demotion.{Demotion}
+use Rattle.clk_record.specs.declared.step.Step.{Step}
+use Rattle.clk_record.specs.declared.stable.Demotion.{Demotion}
 use Rattle.clk_trace.specs.Demoted.{IsLiftOf}
 use Rattle.clk_trace.specs.declared.trace.Trace.{Trace}
 use Rattle.clk_laws.specs.Demoting.{KeepsHigher, HigherWordsStay}

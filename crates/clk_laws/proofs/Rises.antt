@@ -9,8 +9,8 @@ use Rattle.clk_num.specs.Wrapping.{above, IsNotBelow}
 use Rattle.clk_num.proofs.Heights.{above_same}
 use Rattle.clk_num.proofs.Wraps.{wrapped}
 use Rattle.clk_num.specs.Listed.{Listed}
-use Rattle.clk_words.specs.declared.step.Step.{Step}
-use Rattle.clk_words.specs.LowerWord.{is_lower}
+use Rattle.clk_record.specs.declared.step.Step.{Step}
+use Rattle.clk_record.specs.LowerWord.{is_lower}
 use Rattle.clk_trace.specs.Couples.{CouplesLower}
 use Rattle.clk_trace.specs.SeenBefore.{Seen, seen_at, shown_by_kind, higher, highest, values_on, stood_at, seen_of, IsAboveSeen, NeverFalls}
 use Rattle.clk_trace.specs.Standing.{lifted_from, lifts_by}

@@ -5,7 +5,7 @@ use Rattle.std.proofs.lemmas.List.Elements.{All-nil, All-cons, All-weaker}
 use Rattle.std.proofs.lemmas.List.Kept.{AllPairs-cons}
 use Rattle.clk_base.specs.Walk.{Along}
 use Rattle.clk_num.specs.Listed.{Listed}
-use Rattle.clk_demote.specs.declared.events.Demotion.{Demotion}
+use Rattle.clk_record.specs.declared.stable.Demotion.{Demotion}
 use Rattle.clk_trace.specs.Modes.{shows_stable, shows_percpu, reads_percpu, Modes, modes_of, IsOfMode, turned_after}
 use Rattle.clk_trace.specs.Standing.{either_demotion, demotion_by}
 use Rattle.clk_trace.specs.declared.event.Event.{Event}

@@ -7,9 +7,9 @@ use Rattle.clk_num.specs.Range.{IsFrom0To}
 use Rattle.clk_num.specs.Wrapping.{above, IsNotBelow, raise}
 use Rattle.clk_num.proofs.Wraps.{wrapped}
 use Rattle.clk_words.specs.declared.opening.Start.{Start}
-use Rattle.clk_words.specs.declared.step.Step.{Step}
-use Rattle.clk_words.specs.declared.step.Why.{Why}
-use Rattle.clk_words.specs.declared.step.Why.TheVariants.{Raise}
+use Rattle.clk_record.specs.declared.step.Step.{Step}
+use Rattle.clk_record.specs.declared.step.Why.{Why}
+use Rattle.clk_record.specs.declared.step.Why.TheVariants.{Raise}
 use Rattle.clk_words.specs.declared.view.View.{View}
 use Rattle.clk_words.specs.declared.view.Name.TheVariants.{Gtod, Raw}
 use Rattle.clk_words.specs.Bounds.{IsRaw}
@@ -18,7 +18,7 @@ use Rattle.clk_words.specs.Histories.{opens_at, IsGlobalHistory}
 use Rattle.clk_words.specs.Kinds.{cpu_of}
 use Rattle.clk_words.specs.Knowing.{HasLoaded, IsTrusted}
 use Rattle.clk_words.specs.Parts.{gtod_of, raw_of}
-use Rattle.clk_words.specs.Targets.{target}
+use Rattle.clk_record.specs.Targets.{target}
 use Rattle.clk_words.specs.Told.{Raises, FindsRaw, FindsGtod, FindsOffset}
 use Rattle.clk_words.proofs.Loading.{loaded_stamp, kept_stamp, kept_offset, trusted_half}
 use Rattle.clk_words.proofs.Replay.{words_rise, follow_front}

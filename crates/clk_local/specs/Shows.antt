@@ -4,10 +4,10 @@
 use Rattle.std.specs.Prelude.{◌≡◌, ℕ, ℤ, ◌+ℤ◌, [], ◌∷◌, ◌++◌}
 use Rattle.clk_num.specs.Wrapping.{wrap, IsNotBelow}
 use Rattle.clk_ticket.specs.Time.{Time}
-use Rattle.clk_words.specs.declared.opening.Mode.{Mode}
-use Rattle.clk_words.specs.declared.opening.Mode.TheVariants.{Stable as StableMode, PerCpu as PerCpuMode}
-use Rattle.clk_words.specs.declared.step.Step.{Step}
-use Rattle.clk_words.specs.declared.step.Why.TheVariants.{Raise}
+use Rattle.clk_record.specs.declared.mode.Mode.{Mode}
+use Rattle.clk_record.specs.declared.mode.Mode.TheVariants.{Stable as StableMode, PerCpu as PerCpuMode}
+use Rattle.clk_record.specs.declared.step.Step.{Step}
+use Rattle.clk_record.specs.declared.step.Why.TheVariants.{Raise}
 use Rattle.clk_words.specs.declared.view.View.{View}
 use Rattle.clk_words.specs.declared.view.Name.TheVariants.{Raw, Gtod, Offset}
 use Rattle.clk_words.specs.Bounds.{IsGtod}

@@ -1,6 +1,6 @@
 //! The local read.
 ghost use Rattle.std.specs.Prelude.{◌≡◌, ◌≤◌};
-ghost use Rattle.clk_words.specs.declared.opening.Mode.TheVariants.{PerCpu};
+ghost use Rattle.clk_record.specs.declared.mode.Mode.TheVariants.{PerCpu};
 ghost use Rattle.clk_words.specs.Bounds.{IsRaw};
 ghost use Rattle.clk_words.specs.Calls.{KeepsSeat};
 ghost use Rattle.clk_words.specs.Held.{place_of};

@@ -1,7 +1,7 @@
 -- A law of remote readings that a function of this crate carries.
 use Rattle.std.specs.Prelude.{◌≡◌, ℕ, ℤ}
 use Rattle.clk_num.specs.Wrapping.{IsNotBelow}
-use Rattle.clk_words.specs.declared.step.Step.{Step}
+use Rattle.clk_record.specs.declared.step.Step.{Step}
 use Rattle.clk_local.specs.Context.{Site, Known}
 use Rattle.clk_local.specs.Raising.{shown_on}
 use Rattle.clk_remote.specs.Shows.{ShowsCoupling}

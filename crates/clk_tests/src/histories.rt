@@ -5,7 +5,7 @@ ghost use Rattle.clk_trace.specs.Filling.{MayFill, NamesWordsBelow};
 use crate::trace::{no_ups, raw};
 use clk_num::List;
 use clk_trace::{Event, EventKind, HistoryStep, Trace, histories};
-use clk_words::Mode;
+use clk_record::Mode;
 use std::alloc::{AllocError, Global};
 use std::test::Fail;
 

@@ -3,13 +3,11 @@ ghost use Rattle.std.specs.Prelude.{◌≡◌, length, IfOk, None};
 ghost use Rattle.clk_trace.specs.Filling.{NamesWordsBelow};
 
 use crate::lists::one;
-use clk_adjust::BroughtUp;
+use clk_record::{BroughtUp, Mode, StableStamp};
 use clk_base::raised;
-use clk_demote::StableStamp;
 use clk_machine::{Published, RawReading};
 use clk_num::List;
 use clk_trace::{Event, EventKind, Failed, HistoryStep, Sink, Trace, WriteFault, write_trace};
-use clk_words::Mode;
 use std::alloc::{AllocError, Global};
 use std::test::Fail;
 

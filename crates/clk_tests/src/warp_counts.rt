@@ -2,7 +2,8 @@
 ghost use Rattle.std.specs.Prelude.{◌≡◌};
 
 use clk_num::List;
-use clk_warp::{Side, Verdict, WarpCounts, WarpRun, falls_are_counted, verdict};
+use clk_record::{Side, Verdict, WarpRun};
+use clk_warp::{WarpCounts, falls_are_counted, verdict};
 use std::alloc::{AllocError, Global};
 use std::process::Abort;
 

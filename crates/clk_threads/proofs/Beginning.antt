@@ -20,7 +20,7 @@ use Rattle.clk_machine.specs.Records.{above_base, record_zero}
 use Rattle.clk_latch.specs.Epoch.{Epoch}
 use Rattle.clk_latch.specs.Epoch.{Place as LatchPlace}
 use Rattle.clk_local.specs.Context.{MayStamp}
-use Rattle.clk_adjust.specs.declared.up.CpuUp.{CpuUp}
+use Rattle.clk_record.specs.declared.up.CpuUp.{CpuUp}
 use Rattle.clk_trace.specs.RightReadings.{adjust_in}
 use Rattle.clk_trace.specs.declared.event.Event.{Event}
 use Rattle.clk_worker.specs.declared.own.Own.{Own}
@@ -29,8 +29,8 @@ use Rattle.clk_worker.specs.Making.{Hand, FitTogether, SeatsServe, MayBegin}
 use Rattle.clk_worker.specs.Running.{IsSound, OwnsClock}
 use Rattle.clk_worker.specs.Calling.{site_at, has}
 use Rattle.clk_worker.proofs.RunFirst.{HasGiven, given_none, given_more}
-use Rattle.clk_demote.specs.declared.events.StableStamp.{StableStamp}
-use Rattle.clk_demote.specs.declared.events.Demotion.{Demotion}
+use Rattle.clk_record.specs.declared.stable.StableStamp.{StableStamp}
+use Rattle.clk_record.specs.declared.stable.Demotion.{Demotion}
 use Rattle.clk_threads.specs.Booting.{sched_offset_of, AreStamps, IsDemotedAtBootBy}
 use Rattle.clk_threads.specs.Preparing.{start_of, kind_on, gave, thread_seat, thread_seats, epoch_on, IsOfLatch, IsLatchSeat, time_seat, no_events, IsPrepared}
 use Rattle.clk_threads.specs.Workers.{post_of, fresh_hand, IsOfSeats}

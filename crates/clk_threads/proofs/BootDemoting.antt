@@ -16,15 +16,15 @@ use Rattle.clk_machine.specs.Tickets.{word_tickets, watch_tickets}
 use Rattle.clk_machine.proofs.Bounds.{gtod_small}
 use Rattle.clk_machine.proofs.Readings.{first_readings_are_small}
 use Rattle.clk_latch.specs.Epoch.{Epoch}
-use Rattle.clk_adjust.specs.declared.up.CpuUp.{CpuUp}
-use Rattle.clk_adjust.specs.declared.up.BroughtUp.{BroughtUp}
+use Rattle.clk_record.specs.declared.up.CpuUp.{CpuUp}
+use Rattle.clk_record.specs.declared.up.BroughtUp.{BroughtUp}
 use Rattle.clk_trace.specs.Checks.{one}
 use Rattle.clk_trace.specs.TicketOrder.{boot_blocks, up_blocks}
 use Rattle.clk_trace.specs.Demoted.{boot_stamp}
 use Rattle.clk_trace.specs.RightReadings.{IsRightStamp}
-use Rattle.clk_demote.specs.declared.events.StableStamp.{StableStamp}
-use Rattle.clk_demote.specs.declared.events.Demotion.{Demotion}
-use Rattle.clk_demote.specs.Demotions.{IsDemotion}
+use Rattle.clk_record.specs.declared.stable.StableStamp.{StableStamp}
+use Rattle.clk_record.specs.declared.stable.Demotion.{Demotion}
+use Rattle.clk_record.specs.Demotions.{IsDemotion}
 use Rattle.clk_threads.specs.Booting.{HasStamped, gtod_offset_of, sched_offset_of, opening_of, AreStamps, IsBootDemotion, IsDemotedAtBootBy, HasDrawnFirst, HasDrawnBefore, IsBootedFor, IsDemotedFor}
 use Rattle.clk_threads.specs.declared.booted.Booted.{Booted}
 use Rattle.clk_threads.proofs.Lasts.{some_stamps}

@@ -18,24 +18,25 @@ use Rattle.clk_machine.specs.declared.parts.BringUpPart.{BringUpPart}
 use Rattle.clk_machine.specs.Plan.{Plan, count_of, cpu_count}
 use Rattle.clk_machine.specs.Limits.{is_second, most_tickets, IsWithinLimits}
 use Rattle.clk_machine.specs.Tickets.{bring_up_tickets}
-use Rattle.clk_warp.specs.declared.side.WarpReading.{WarpReading}
-use Rattle.clk_warp.specs.declared.side.WarpRun.{WarpRun}
-use Rattle.clk_warp.specs.Run.{limits_in, turns_in}
+use Rattle.clk_record.specs.declared.warp.WarpReading.{WarpReading}
+use Rattle.clk_record.specs.declared.warp.WarpRun.{WarpRun}
+use Rattle.clk_record.specs.WarpLimits.{limits_in, turns_in}
 use Rattle.clk_warp.specs.Pairs.{drawn_for, block_of, DrawsFor}
-use Rattle.clk_warp.specs.Verdicts.{adjustment, verdict_of}
-use Rattle.clk_warp.specs.declared.outcome.Verdict.TheVariants as verdict
-use Rattle.clk_adjust.specs.declared.up.CpuUp.{CpuUp}
-use Rattle.clk_adjust.specs.declared.up.BroughtUp.{BroughtUp}
-use Rattle.clk_adjust.specs.BroughtUp.{IsRunOfCpu, adjusted, adjusted_by, AreRunsOf, most_runs, AreMadeAgain, IsTested, test_of, IsUp, is_failure, failed_after, IsBroughtUp}
-use Rattle.clk_adjust.specs.Tickets.{readings_in, all_readings, cpu_tickets, up_tickets}
+use Rattle.clk_record.specs.Verdicts.{adjustment, verdict_of}
+use Rattle.clk_record.specs.declared.verdict.Verdict.TheVariants as verdict
+use Rattle.clk_record.specs.declared.up.CpuUp.{CpuUp}
+use Rattle.clk_record.specs.declared.up.BroughtUp.{BroughtUp}
+use Rattle.clk_record.specs.BroughtUp.{IsRunOfCpu, adjusted, adjusted_by, AreRunsOf, most_runs, AreMadeAgain, IsTested, test_of, IsUp, is_failure, failed_after, IsBroughtUp}
+use Rattle.clk_record.specs.WarpReadings.{readings_in, all_readings}
+use Rattle.clk_adjust.specs.Tickets.{cpu_tickets, up_tickets}
 use Rattle.clk_adjust.proofs.Counters.{readings_by}
 use Rattle.clk_adjust.proofs.Sizes.{IsSmall, run_small}
 use Rattle.clk_adjust.proofs.Going.{IsFar, calls_again}
 use Rattle.clk_trace.specs.RightReadings.{adjust_in}
 use Rattle.clk_trace.specs.Checks.{listed, demotion_blocks}
 use Rattle.clk_trace.specs.TicketOrder.{boot_blocks}
-use Rattle.clk_demote.specs.declared.events.StableStamp.{StableStamp}
-use Rattle.clk_demote.specs.declared.events.Demotion.{Demotion}
+use Rattle.clk_record.specs.declared.stable.StableStamp.{StableStamp}
+use Rattle.clk_record.specs.declared.stable.Demotion.{Demotion}
 use Rattle.clk_threads.specs.Booting.{demotion_tickets, HasDrawnFirst, HasDrawnBefore, IsBooted, IsBootedFor}
 use Rattle.clk_threads.specs.Preparing.{adjusts_of}
 use Rattle.clk_threads.specs.declared.booted.Booted.{Booted}

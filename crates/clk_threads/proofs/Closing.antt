@@ -16,9 +16,9 @@ use Rattle.clk_base.specs.Walk.{EachFrom}
 use Rattle.clk_num.specs.Listed.{Listed}
 use Rattle.clk_ticket.specs.Time.{Time, share_of}
 use Rattle.clk_words.specs.declared.kind.SeatKind.TheVariants.{Watch}
-use Rattle.clk_words.specs.declared.opening.Mode.TheVariants.{Stable, PerCpu}
+use Rattle.clk_record.specs.declared.mode.Mode.TheVariants.{Stable, PerCpu}
 use Rattle.clk_words.specs.declared.opening.Start.{Start}
-use Rattle.clk_words.specs.declared.step.Step.{Step}
+use Rattle.clk_record.specs.declared.step.Step.{Step}
 use Rattle.clk_words.specs.declared.view.View.{View}
 use Rattle.clk_words.specs.Calls.{IsComplete}
 use Rattle.clk_words.specs.Fronts.{Begins}

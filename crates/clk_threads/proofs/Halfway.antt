@@ -7,7 +7,7 @@ use Rattle.std.proofs.lemmas.List.{length-map}
 use Rattle.std.proofs.lemmas.List.Elements.{All-nil, All-cons, All-head, All-tail, All-weaker, All-get_or}
 use Rattle.clk_base.specs.Walk.{EachFrom}
 use Rattle.clk_machine.specs.Plan.{threads_of}
-use Rattle.clk_watch.specs.Watching.{checks_asked}
+use Rattle.clk_record.specs.ChecksAsked.{checks_asked}
 use Rattle.clk_trace.specs.Checks.{listed}
 use Rattle.clk_worker.specs.declared.shared.Shared.{Shared}
 use Rattle.clk_worker.specs.Making.{Hand, script_of}

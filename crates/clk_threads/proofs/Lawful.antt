@@ -1,9 +1,9 @@
 -- The trace of a run of several threads is lawful, and shows the history of the clock words: in either start, with or
 -- without a watchdog, and with the demotions that there are.
 use Rattle.std.proofs.Common.{◌≡◌, ℕ, ◌+◌, ◌<◌, ℤ, Bool, true, false, not, ◌||◌, is_some, inl, inr, List, length, get_or, Option, Some, None, ap, ◌∙◌, sym, subst, refl, arith}
-use Rattle.clk_words.specs.declared.step.Step.{Step}
+use Rattle.clk_record.specs.declared.step.Step.{Step}
 use Rattle.clk_machine.specs.Plan.{Plan, cpu_count}
-use Rattle.clk_demote.specs.declared.events.Demotion.{Demotion}
+use Rattle.clk_record.specs.declared.stable.Demotion.{Demotion}
 use Rattle.clk_trace.specs.LawfulTrace.{IsLawful}
 use Rattle.clk_trace.specs.Stamps.{Pair}
 use Rattle.clk_trace.specs.Standing.{begins_stable, demotion_by}

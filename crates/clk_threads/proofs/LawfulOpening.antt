@@ -1,10 +1,10 @@
 -- How the clock of a run stands as its scripts begin, in the terms of the trace and of the words' opening.
 use Rattle.std.proofs.Common.{◌≡◌, ℤ, ◌+ℤ◌, Bool, true, false, ◌&&◌, not, is_some, if◌then◌else◌, List, Option, Some, None, refl, ap, ◌∙◌, sym}
-use Rattle.clk_words.specs.declared.opening.Mode.TheVariants.{Stable, PerCpu}
-use Rattle.clk_words.specs.declared.step.Step.{Step}
+use Rattle.clk_record.specs.declared.mode.Mode.TheVariants.{Stable, PerCpu}
+use Rattle.clk_record.specs.declared.step.Step.{Step}
 use Rattle.clk_machine.specs.Plan.{Plan}
-use Rattle.clk_demote.specs.declared.events.StableStamp.{StableStamp}
-use Rattle.clk_demote.specs.declared.events.Demotion.{Demotion}
+use Rattle.clk_record.specs.declared.stable.StableStamp.{StableStamp}
+use Rattle.clk_record.specs.declared.stable.Demotion.{Demotion}
 use Rattle.clk_trace.specs.LawfulTrace.{opening_at}
 use Rattle.clk_trace.specs.Standing.{is_stable, begins_stable, demotion_by, either_demotion, offset_at, standing_offset}
 use Rattle.clk_trace.specs.Stamps.{no_pair, last_pair, pair_at, stamp_zero}

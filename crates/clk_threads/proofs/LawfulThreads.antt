@@ -8,9 +8,9 @@ use Rattle.clk_base.specs.declared.block.Block.{Block}
 use Rattle.clk_base.specs.Blocks.{RisesFrom, top_of}
 use Rattle.clk_base.specs.Walk.{Along, EachFrom}
 use Rattle.clk_words.specs.declared.kind.SeatKind.TheVariants.{Owner}
-use Rattle.clk_words.specs.declared.opening.Mode.TheVariants.{Stable}
+use Rattle.clk_record.specs.declared.mode.Mode.TheVariants.{Stable}
 use Rattle.clk_words.specs.declared.opening.Start.{Start}
-use Rattle.clk_words.specs.declared.step.Step.{Step}
+use Rattle.clk_record.specs.declared.step.Step.{Step}
 use Rattle.clk_words.specs.declared.view.Part.{Part}
 use Rattle.clk_words.specs.Fronts.{Begins}
 use Rattle.clk_words.specs.Histories.{opens_at, IsGlobalHistory}

@@ -8,7 +8,7 @@ use Rattle.clk_base.specs.Blocks.{end_of, AllEndBy, RisesFrom, top_of}
 use Rattle.clk_base.specs.Walk.{EachFrom}
 use Rattle.clk_ticket.specs.Time.{Time, Draws}
 use Rattle.clk_local.specs.Context.{Site, Known}
-use Rattle.clk_words.specs.declared.step.Step.{Step}
+use Rattle.clk_record.specs.declared.step.Step.{Step}
 use Rattle.clk_machine.specs.Plan.{Plan}
 use Rattle.clk_trace.specs.Checks.{listed, demotion_blocks}
 use Rattle.clk_trace.specs.TicketOrder.{blocks_of, blocks_of_kind, boot_blocks, up_blocks, first_blocks, thread_blocks}

@@ -10,13 +10,13 @@ use Rattle.clk_base.specs.declared.block.Block.{Block}
 use Rattle.clk_base.specs.Blocks.{Rises, RisesFrom, top_of}
 use Rattle.clk_base.specs.Walk.{EachFrom, flat_from}
 use Rattle.clk_num.specs.Wrapping.{raise}
-use Rattle.clk_words.specs.declared.step.Step.{Step}
+use Rattle.clk_record.specs.declared.step.Step.{Step}
 use Rattle.clk_words.specs.Fronts.{Begins}
 use Rattle.clk_words.specs.Histories.{opens_at, is_lift}
 use Rattle.clk_machine.specs.Plan.{Plan, cpu_count}
-use Rattle.clk_demote.specs.declared.events.StableStamp.{StableStamp}
-use Rattle.clk_demote.specs.declared.events.Demotion.{Demotion}
-use Rattle.clk_demote.specs.Demotions.{IsDemotion}
+use Rattle.clk_record.specs.declared.stable.StableStamp.{StableStamp}
+use Rattle.clk_record.specs.declared.stable.Demotion.{Demotion}
+use Rattle.clk_record.specs.Demotions.{IsDemotion}
 use Rattle.clk_demote.specs.Shows.{adjust_at}
 use Rattle.clk_demote.specs.Stamping.{epoch_at}
 use Rattle.clk_trace.specs.Checks.{Visit, Check, listed, pause_of, visits_of, watch_blocks, checks_of, checks_in}

@@ -4,8 +4,8 @@ use Rattle.std.specs.Prelude.{is_some}
 use Rattle.std.specs.List.{All}
 use Rattle.std.proofs.lemmas.List.{length-map}
 use Rattle.clk_machine.specs.Plan.{cpu_count, threads_of}
-use Rattle.clk_adjust.specs.declared.up.CpuUp.{CpuUp}
-use Rattle.clk_demote.specs.declared.events.StableStamp.{StableStamp}
+use Rattle.clk_record.specs.declared.up.CpuUp.{CpuUp}
+use Rattle.clk_record.specs.declared.stable.StableStamp.{StableStamp}
 use Rattle.clk_threads.specs.Preparing.{thread_seat, thread_seats, watch_seat, watch_time, time_seat, no_events, empty_watch, IsPrepared}
 use Rattle.clk_threads.specs.Workers.{HaveSeats, HaveWatchSeats}
 use Rattle.clk_threads.specs.Parts.{seats_of, watch_seats_of}

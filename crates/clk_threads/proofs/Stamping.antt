@@ -22,7 +22,7 @@ use Rattle.clk_latch.specs.Epoch.{Epoch, owner_of}
 use Rattle.clk_trace.specs.Checks.{one}
 use Rattle.clk_trace.specs.TicketOrder.{boot_blocks, up_blocks}
 use Rattle.clk_trace.specs.RightReadings.{IsRightStamp}
-use Rattle.clk_demote.specs.declared.events.StableStamp.{StableStamp}
+use Rattle.clk_record.specs.declared.stable.StableStamp.{StableStamp}
 use Rattle.clk_threads.specs.Booting.{HasEpoch, MayStampAtBoot, HasStamped, gtod_offset_of, AreStamps, HasDrawnFirst}
 
 -- monotonic time does not fall

@@ -12,9 +12,9 @@ use Rattle.clk_num.specs.Wrapping.{wrap}
 use Rattle.clk_num.proofs.Wraps.{wrapped}
 use Rattle.clk_ticket.specs.Time.{Time}
 use Rattle.clk_words.specs.declared.kind.SeatKind.TheVariants.{Watch}
-use Rattle.clk_words.specs.declared.opening.Mode.TheVariants.{Stable, PerCpu}
+use Rattle.clk_record.specs.declared.mode.Mode.TheVariants.{Stable, PerCpu}
 use Rattle.clk_words.specs.declared.opening.Start.{Start}
-use Rattle.clk_words.specs.declared.step.Step.{Step}
+use Rattle.clk_record.specs.declared.step.Step.{Step}
 use Rattle.clk_words.specs.declared.view.View.{View}
 use Rattle.clk_words.specs.Held.{Held}
 use Rattle.clk_words.specs.Histories.{opens_at, has_lift}
@@ -23,15 +23,15 @@ use Rattle.clk_machine.specs.Plan.{Plan, cpu_count, threads_of}
 use Rattle.clk_machine.specs.Records.{record_zero, above_base}
 use Rattle.clk_latch.specs.Epoch.{Place as LatchPlace}
 use Rattle.clk_local.specs.Context.{BeginsAtBase}
-use Rattle.clk_adjust.specs.declared.up.CpuUp.{CpuUp}
+use Rattle.clk_record.specs.declared.up.CpuUp.{CpuUp}
 use Rattle.clk_trace.specs.Checks.{listed}
 use Rattle.clk_trace.specs.Demoted.{last_stamp, boot_stamp}
 use Rattle.clk_trace.specs.RightReadings.{adjust_in}
 use Rattle.clk_trace.specs.Stamps.{Pair, no_pair, boot_pair, last_pair}
 use Rattle.clk_trace.specs.declared.trace.WatchTrace.{WatchTrace}
-use Rattle.clk_demote.specs.declared.events.StableStamp.{StableStamp}
-use Rattle.clk_demote.specs.declared.events.Demotion.{Demotion}
-use Rattle.clk_demote.specs.Demotions.{offset_by}
+use Rattle.clk_record.specs.declared.stable.StableStamp.{StableStamp}
+use Rattle.clk_record.specs.declared.stable.Demotion.{Demotion}
+use Rattle.clk_record.specs.Demotions.{offset_by}
 use Rattle.clk_watcher.specs.Making.{IsStable}
 use Rattle.clk_watcher.specs.Making.{Hand as WatchHand, Begins as WatchBegins, MayBegin as MayWatch, BelongsTo as WatchBelongsTo, IsGoing as IsWatchGoing}
 use Rattle.clk_watcher.specs.declared.parts.WatchParts.{WatchParts}

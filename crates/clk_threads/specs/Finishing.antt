@@ -8,9 +8,9 @@ use Rattle.clk_base.specs.Walk.{EachFrom}
 use Rattle.clk_num.specs.Listed.{Listed}
 use Rattle.clk_ticket.specs.Time.{Tickets, Time}
 use Rattle.clk_words.specs.declared.kind.SeatKind.{SeatKind}
-use Rattle.clk_words.specs.declared.opening.Mode.TheVariants.{Stable, PerCpu}
+use Rattle.clk_record.specs.declared.mode.Mode.TheVariants.{Stable, PerCpu}
 use Rattle.clk_words.specs.declared.opening.Start.{Start}
-use Rattle.clk_words.specs.declared.step.Step.{Step}
+use Rattle.clk_record.specs.declared.step.Step.{Step}
 use Rattle.clk_words.specs.declared.view.View.{View}
 use Rattle.clk_words.specs.Calls.{IsComplete, own_steps}
 use Rattle.clk_words.specs.Fronts.{Begins}
@@ -22,10 +22,10 @@ use Rattle.clk_machine.specs.Plan.{Plan, cpu_count, thread_at, threads_of}
 use Rattle.clk_machine.specs.Limits.{IsWithinLimits}
 use Rattle.clk_machine.specs.Records.{record_zero}
 use Rattle.clk_local.specs.Context.{Site, Known}
-use Rattle.clk_adjust.specs.declared.up.CpuUp.{CpuUp}
-use Rattle.clk_adjust.specs.declared.up.BroughtUp.{BroughtUp}
-use Rattle.clk_adjust.specs.BroughtUp.{IsBroughtUp}
-use Rattle.clk_demote.specs.declared.events.StableStamp.{StableStamp}
+use Rattle.clk_record.specs.declared.up.CpuUp.{CpuUp}
+use Rattle.clk_record.specs.declared.up.BroughtUp.{BroughtUp}
+use Rattle.clk_record.specs.BroughtUp.{IsBroughtUp}
+use Rattle.clk_record.specs.declared.stable.StableStamp.{StableStamp}
 use Rattle.clk_demote.specs.Context.{Site as WatchSite, Known as WatchKnown}
 use Rattle.clk_demote.specs.Stamping.{epoch_at}
 use Rattle.clk_trace.specs.Checks.{listed, demotion_blocks}

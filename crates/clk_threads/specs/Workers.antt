@@ -4,8 +4,8 @@ use Rattle.std.specs.List.{All}
 use Rattle.clk_base.specs.Walk.{EachFrom}
 use Rattle.clk_num.specs.Listed.{Listed}
 use Rattle.clk_machine.specs.Plan.{Plan, thread_at}
-use Rattle.clk_demote.specs.declared.events.StableStamp.{StableStamp}
-use Rattle.clk_watch.specs.Watching.{checks_asked}
+use Rattle.clk_record.specs.declared.stable.StableStamp.{StableStamp}
+use Rattle.clk_record.specs.ChecksAsked.{checks_asked}
 use Rattle.clk_trace.specs.Checks.{listed}
 use Rattle.clk_trace.specs.Demoted.{boot_stamp}
 use Rattle.clk_trace.specs.declared.trace.WatchTrace.{WatchTrace}

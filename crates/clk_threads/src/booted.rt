@@ -6,7 +6,7 @@ ghost use Rattle.clk_ticket.specs.Time.{fresh};
 ghost use Rattle.clk_latch.specs.Epoch.{owner_of};
 ghost use Rattle.clk_threads.specs.Booting.{HasEpoch, MayStampAtBoot, HasStamped, HasStarted, IsBooted};
 
-use clk_demote::StableStamp;
+use clk_record::StableStamp;
 use clk_latch::{Epochs, Latch, LatchSeat};
 use clk_machine::{CpuCounter, Machine, Published};
 use clk_num::List;

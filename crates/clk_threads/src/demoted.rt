@@ -3,8 +3,8 @@ ghost use Rattle.std.specs.Prelude.{IfOk};
 ghost use Rattle.clk_threads.specs.Booting.{IsBootedFor, IsDemotedFor};
 
 use crate::booted::{Booted, stamp};
-use clk_adjust::BroughtUp;
-use clk_demote::{Demotion, demotion_after};
+use clk_record::{BroughtUp, Demotion};
+use clk_demote::demotion_after;
 use clk_latch::{Epochs, Latch};
 use std::alloc::{AllocError, Global};
 

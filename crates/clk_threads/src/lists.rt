@@ -4,7 +4,7 @@ ghost use Rattle.clk_machine.specs.Plan.{threads_of, cpu_count};
 ghost use Rattle.clk_threads.specs.Preparing.{no_events, steps_room, histories_below, adjusts_of, empty_watch, AreLists};
 
 use crate::watchdog::{checks, has_watchdog};
-use clk_adjust::BroughtUp;
+use clk_record::BroughtUp;
 use clk_latch::LatchSeat;
 use clk_machine::Machine;
 use clk_num::List;

@@ -3,15 +3,15 @@ ghost use Rattle.std.specs.Prelude.{◌≡◌, ◌<◌, ◌≤◌, [], IfOk, len
 ghost use Rattle.clk_machine.specs.Plan.{cpu_count, threads_of};
 ghost use Rattle.clk_machine.specs.Limits.{IsWithinLimits};
 ghost use Rattle.clk_words.specs.Views.{first_view};
-ghost use Rattle.clk_words.specs.declared.opening.Mode.TheVariants.{Stable as StableMode, PerCpu as PerCpuMode};
+ghost use Rattle.clk_record.specs.declared.mode.Mode.TheVariants.{Stable as StableMode, PerCpu as PerCpuMode};
 ghost use Rattle.clk_threads.specs.Booting.{AreStamps, IsDemotedAtBootBy, gtod_offset_of, opening_of};
 ghost use Rattle.clk_threads.specs.Preparing.{kind_on, gave, gave_threads, gave_all, thread_seats, watch_seat, HasOpened};
 
 use crate::watchdog::has_watchdog;
-use clk_demote::{Demotion, StableStamp};
+use clk_record::{Demotion, Mode, StableStamp};
 use clk_machine::Machine;
 use clk_num::List;
-use clk_words::{Mode, Opening, Seat, SeatKind, Words};
+use clk_words::{Opening, Seat, SeatKind, Words};
 use std::alloc::{AllocError, Global};
 
 /// The clock words of a run, and its seats there.

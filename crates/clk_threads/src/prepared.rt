@@ -1,6 +1,6 @@
 //! A machine that was prepared for its run: every seat, and all memory.
 ghost use Rattle.std.specs.Prelude.{◌≡◌, None, IfOk};
-ghost use Rattle.clk_adjust.specs.BroughtUp.{IsBroughtUp};
+ghost use Rattle.clk_record.specs.BroughtUp.{IsBroughtUp};
 ghost use Rattle.clk_threads.specs.Booting.{IsBootedFor, IsDemotedFor};
 ghost use Rattle.clk_threads.specs.Preparing.{IsMade, IsPrepared};
 
@@ -10,8 +10,7 @@ use crate::latches::{Latches, make_latches};
 use crate::lists::{Lists, make_lists};
 use crate::opened::{Opened, open_words};
 use crate::times::{share_tickets, share_watch};
-use clk_adjust::BroughtUp;
-use clk_demote::{Demotion, StableStamp};
+use clk_record::{BroughtUp, Demotion, StableStamp};
 use clk_machine::{Machine, Published};
 use clk_num::List;
 use clk_ticket::{TicketTable, TimeSeat};

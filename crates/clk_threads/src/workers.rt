@@ -7,7 +7,7 @@ ghost use Rattle.clk_trace.specs.Checks.{listed};
 ghost use Rattle.clk_watcher.specs.Making.{BelongsTo as WatchBelongsTo};
 ghost use Rattle.clk_threads.specs.Workers.{HaveSeats, IsOfLast, AreInSlots, HaveWatchSeats, IsWatcherOf, HasRun, HaveRun, HasWatchRun, WatcherRan};
 
-use clk_demote::StableStamp;
+use clk_record::StableStamp;
 use clk_latch::LatchSeat;
 use clk_machine::{Gate, Machine};
 use clk_num::List;

@@ -6,13 +6,13 @@ use Rattle.clk_base.specs.Walk.{Along, EachFrom}
 use Rattle.clk_ticket.specs.Time.{Time}
 use Rattle.clk_machine.specs.declared.parts.BringUpPart.{BringUpPart}
 use Rattle.clk_machine.specs.Plan.{Plan, cpu_count, threads_of}
-use Rattle.clk_warp.specs.declared.side.WarpReading.{WarpReading}
+use Rattle.clk_record.specs.declared.warp.WarpReading.{WarpReading}
 use Rattle.clk_warp.specs.Pairs.{DrawsFor}
-use Rattle.clk_adjust.specs.declared.up.CpuUp.{CpuUp}
-use Rattle.clk_adjust.specs.declared.up.BroughtUp.{BroughtUp}
-use Rattle.clk_adjust.specs.declared.up.UpOutcome.TheVariants.{Untested}
-use Rattle.clk_adjust.specs.BroughtUp.{IsLeft, test_of, IsUp, is_failure, failed_after, IsBroughtUp}
-use Rattle.clk_adjust.specs.Tickets.{all_readings}
+use Rattle.clk_record.specs.declared.up.CpuUp.{CpuUp}
+use Rattle.clk_record.specs.declared.up.BroughtUp.{BroughtUp}
+use Rattle.clk_record.specs.declared.up.UpOutcome.TheVariants.{Untested}
+use Rattle.clk_record.specs.BroughtUp.{IsLeft, test_of, IsUp, is_failure, failed_after, IsBroughtUp}
+use Rattle.clk_record.specs.WarpReadings.{all_readings}
 use Rattle.clk_trace.specs.declared.trace.Trace.{Trace}
 use Rattle.clk_trace.specs.LawfulTrace.{IsLawful}
 use Rattle.clk_threads.specs.declared.booted.Booted.{Booted}

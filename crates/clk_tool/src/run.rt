@@ -1,7 +1,7 @@
 //! The command `run` by its parts: what is read before the CPUs are brought up, and what is run and written after it.
 ghost use Rattle.std.specs.Prelude.{◌≡◌, ◌⊎◌, ◌+◌, ◌≤◌, None, IfOk, IfErr, IsErrAnd, length};
 ghost use Rattle.clk_base.specs.Causes.{Rose, Grew, GrewByPrefix};
-ghost use Rattle.clk_adjust.specs.BroughtUp.{IsBroughtUp};
+ghost use Rattle.clk_record.specs.BroughtUp.{IsBroughtUp};
 ghost use Rattle.clk_trace.specs.LawfulTrace.{IsLawful};
 ghost use Rattle.clk_trace.specs.WritableWatch.{MayWriteWatch};
 ghost use Rattle.clk_threads.specs.Booting.{IsBooted, IsBootedFor};
@@ -12,7 +12,7 @@ ghost use Rattle.clk_tool.specs.Answers.{CameMachine, Traced, status_of, IsCause
 use crate::source::Source;
 use crate::status::{Refusal, Status};
 use crate::whole::{LIMIT, ReadRefusal, read_whole};
-use clk_adjust::BroughtUp;
+use clk_record::BroughtUp;
 use clk_file::{FileError, read_machine};
 use clk_machine::{Gate, Machine};
 use clk_threads::{Booted, Finished, boot, prepare, run_cpus};

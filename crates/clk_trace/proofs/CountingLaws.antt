@@ -13,11 +13,11 @@ use Rattle.clk_machine.specs.declared.parts.BringUpPart.{BringUpPart}
 use Rattle.clk_machine.specs.declared.script.Word.{Word}
 use Rattle.clk_machine.specs.Plan.{Plan, threads_of}
 use Rattle.clk_machine.specs.Tickets.{tickets_of, boot_tickets, word_tickets}
-use Rattle.clk_adjust.specs.BroughtUp.{IsUp, failed_after}
-use Rattle.clk_adjust.specs.Tickets.{all_readings}
-use Rattle.clk_adjust.specs.declared.up.CpuUp.{CpuUp}
-use Rattle.clk_demote.specs.declared.events.Demotion.{Demotion}
-use Rattle.clk_demote.specs.declared.events.StableStamp.{StableStamp}
+use Rattle.clk_record.specs.BroughtUp.{IsUp, failed_after}
+use Rattle.clk_record.specs.WarpReadings.{all_readings}
+use Rattle.clk_record.specs.declared.up.CpuUp.{CpuUp}
+use Rattle.clk_record.specs.declared.stable.Demotion.{Demotion}
+use Rattle.clk_record.specs.declared.stable.StableStamp.{StableStamp}
 use Rattle.clk_trace.specs.Checks.{stamp_blocks, demotion_blocks, listed, pause_of, watch_blocks, checks_in}
 use Rattle.clk_trace.specs.Counting.{steps_of_word, word_steps, CountsTickets, CountsSteps}
 use Rattle.clk_trace.specs.LawfulTrace.{IsLawful}

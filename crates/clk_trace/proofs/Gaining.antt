@@ -8,7 +8,7 @@ use Rattle.clk_base.specs.Walk.{EachFrom}
 use Rattle.clk_num.specs.Listed.{Listed}
 use Rattle.clk_trace.specs.Filling.{lines_on, Gained, HasRoomFor, Sorts}
 use Rattle.clk_trace.specs.WordHistory.{Placed, steps_of_kind, steps_from, placed_lift, placed_on, line_of}
-use Rattle.clk_words.specs.declared.step.Step.{Step}
+use Rattle.clk_record.specs.declared.step.Step.{Step}
 use Rattle.clk_trace.specs.declared.event.Event.{Event}
 use Rattle.clk_trace.specs.declared.trace.HistoryStep.{HistoryStep}
 

@@ -3,10 +3,10 @@ use Rattle.std.proofs.Common.{◌+◌, ◌≤◌, List, [], ◌∷◌, length}
 use Rattle.std.specs.List.{All}
 use Rattle.std.proofs.lemmas.List.Elements.{All-nil, All-cons}
 use Rattle.clk_machine.specs.Plan.{Plan}
-use Rattle.clk_watch.specs.declared.attempt.Attempt.{Attempt}
-use Rattle.clk_watch.specs.declared.record.SourceRecord.{SourceRecord}
-use Rattle.clk_watch.specs.declared.watched.Watched.{Watched}
-use Rattle.clk_watch.specs.Fold.{after_record, AreVisits}
+use Rattle.clk_record.specs.declared.attempt.Attempt.{Attempt}
+use Rattle.clk_record.specs.declared.visit.SourceRecord.{SourceRecord}
+use Rattle.clk_record.specs.declared.watched.Watched.{Watched}
+use Rattle.clk_record.specs.Fold.{after_record, AreVisits}
 
 pub visits_named : (m : Plan) (attempts : List Attempt) (ws : List Watched) (records : List SourceRecord) → AreVisits m attempts ws records
     → All (λ r. r.first + r.count ≤ length attempts) records

@@ -3,8 +3,8 @@
 use Rattle.std.proofs.Common.{◌≡◌, ℕ, zero, suc, ◌+◌, ◌-◌, ◌%◌, ◌<◌, ◌≤◌, Bool, true, false, cond, List, [], ◌∷◌, ◌++◌, length, take, drop, get_or, drop-cons, add-one, refl, sym, ◌∙◌, ap, subst, arith}
 use Rattle.std.proofs.lemmas.List.{drop_all}
 use Rattle.clk_base.specs.Text.{lines_from}
-use Rattle.clk_watch.specs.declared.record.SourceRecord.{SourceRecord}
-use Rattle.clk_demote.specs.declared.events.StableStamp.{StableStamp}
+use Rattle.clk_record.specs.declared.visit.SourceRecord.{SourceRecord}
+use Rattle.clk_record.specs.declared.stable.StableStamp.{StableStamp}
 use Rattle.clk_trace.specs.Lines.{line_text}
 use Rattle.clk_trace.specs.Lines.Line.{Checking, Current}
 use Rattle.clk_trace.specs.Taking.{Progress, Takes}

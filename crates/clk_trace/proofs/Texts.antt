@@ -3,9 +3,9 @@ use Rattle.std.proofs.Common.{◌≡◌, ℕ, ◌+◌, nat_eq, List, [], ◌∷�
 use Rattle.clk_base.specs.Text.{lines_from}
 use Rattle.clk_base.specs.Walk.{flat_from}
 use Rattle.clk_num.specs.Listed.{Listed}
-use Rattle.clk_warp.specs.declared.side.WarpReading.{WarpReading}
-use Rattle.clk_warp.specs.declared.side.WarpRun.{WarpRun}
-use Rattle.clk_adjust.specs.declared.up.CpuUp.{CpuUp}
+use Rattle.clk_record.specs.declared.warp.WarpReading.{WarpReading}
+use Rattle.clk_record.specs.declared.warp.WarpRun.{WarpRun}
+use Rattle.clk_record.specs.declared.up.CpuUp.{CpuUp}
 use Rattle.clk_trace.specs.Lines.{Line, step_line, line_text, text_of}
 use Rattle.clk_trace.specs.Lines.Line.{Run, Turn, Thread, Shown, History}
 use Rattle.clk_trace.specs.TraceText.{done_line, run_lines, cpu_line, up_lines, word_lines, thread_lines, history_lines}

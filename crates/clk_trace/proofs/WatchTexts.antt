@@ -1,10 +1,10 @@
 -- The watchdog's lines, by the parts that the writer goes through.
 use Rattle.std.proofs.Common.{◌≡◌, ℕ, ◌%◌, List, [], ◌∷◌, ◌++◌, map, flat_map, sym, ◌∙◌, ap, append_assoc, append-nil, Option}
 use Rattle.clk_base.specs.Text.{lines_from}
-use Rattle.clk_words.specs.declared.step.Step.{Step}
-use Rattle.clk_watch.specs.declared.attempt.Attempt.{Attempt}
-use Rattle.clk_demote.specs.declared.events.StableStamp.{StableStamp}
-use Rattle.clk_demote.specs.declared.events.Demotion.{Demotion}
+use Rattle.clk_record.specs.declared.step.Step.{Step}
+use Rattle.clk_record.specs.declared.attempt.Attempt.{Attempt}
+use Rattle.clk_record.specs.declared.stable.StableStamp.{StableStamp}
+use Rattle.clk_record.specs.declared.stable.Demotion.{Demotion}
 use Rattle.clk_trace.specs.Lines.{Line, line_text, text_of}
 use Rattle.clk_trace.specs.Lines.Line.{Demoted, Watchdog, Checking, Attempted, Judged, Stamped, Current}
 use Rattle.clk_trace.specs.Checks.{Visit, Check, listed, checks_of}

@@ -2,7 +2,7 @@
 use Rattle.std.proofs.Common.{◌≡◌, ℕ, List, [], ◌∷◌, ◌++◌, map, flat_map, length, sym, ◌∙◌, ap, append_assoc, append-nil}
 use Rattle.clk_base.specs.Text.{lines_from}
 use Rattle.clk_base.specs.Walk.{flat_from}
-use Rattle.clk_demote.specs.declared.events.Demotion.{Demotion}
+use Rattle.clk_record.specs.declared.stable.Demotion.{Demotion}
 use Rattle.clk_trace.specs.Lines.{Line, line_text, text_of}
 use Rattle.clk_trace.specs.Lines.Line.{Head, Epoch, Start, Demoted, End}
 use Rattle.clk_trace.specs.Checks.{listed}

@@ -3,11 +3,11 @@ use Rattle.std.specs.Prelude.{ℕ, ◌-◌, List, [], ◌∷◌, ◌++◌, map, 
 use Rattle.clk_base.specs.declared.block.Block.{Block}
 use Rattle.clk_machine.specs.declared.parts.WatchPart.{WatchPart}
 use Rattle.clk_machine.specs.Plan.{Plan, count_of}
-use Rattle.clk_watch.specs.declared.attempt.Attempt.{Attempt}
-use Rattle.clk_watch.specs.declared.record.SourceRecord.{SourceRecord}
-use Rattle.clk_watch.specs.Fold.{attempts_of}
-use Rattle.clk_demote.specs.declared.events.StableStamp.{StableStamp}
-use Rattle.clk_demote.specs.declared.events.Demotion.{Demotion}
+use Rattle.clk_record.specs.declared.attempt.Attempt.{Attempt}
+use Rattle.clk_record.specs.declared.visit.SourceRecord.{SourceRecord}
+use Rattle.clk_record.specs.Fold.{attempts_of}
+use Rattle.clk_record.specs.declared.stable.StableStamp.{StableStamp}
+use Rattle.clk_record.specs.declared.stable.Demotion.{Demotion}
 use Rattle.clk_trace.specs.declared.trace.WatchTrace.{WatchTrace}
 
 -- a visit to a source: its record and its attempts, and the stable stamp or the demotion that stands after them, if any

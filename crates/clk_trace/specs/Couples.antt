@@ -1,7 +1,7 @@
 -- How a remote reading couples two clock words: of two loaded values the lower word is raised to the other.
 use Rattle.std.specs.Prelude.{◌≡◌, ℕ, ◌==◌, ℤ, if◌then◌else◌}
 use Rattle.clk_num.specs.Wrapping.{IsNotBelow}
-use Rattle.clk_words.specs.LowerWord.{lower_word, lower_value}
+use Rattle.clk_record.specs.LowerWord.{lower_word, lower_value}
 use Rattle.clk_trace.specs.declared.event.EventKind.{EventKind}
 use Rattle.clk_trace.specs.declared.event.EventKind.TheVariants.{Stable, Local, Couple, Stamp, Nothing, Update, Pause}
 

@@ -6,7 +6,7 @@ use Rattle.clk_base.specs.Walk.{Along, EachFrom}
 use Rattle.clk_num.specs.Wrapping.{wrap}
 use Rattle.clk_machine.specs.Plan.{Plan, cpu_count, threads_of}
 use Rattle.clk_machine.specs.Time.{counter_at}
-use Rattle.clk_adjust.specs.BroughtUp.{IsBroughtUp}
+use Rattle.clk_record.specs.BroughtUp.{IsBroughtUp}
 use Rattle.clk_trace.specs.Threads.{owners, readers, reader_cpus}
 use Rattle.clk_trace.specs.Lines.{step_line}
 use Rattle.clk_trace.specs.ScriptEvents.{AreEventsOf}
@@ -20,7 +20,7 @@ use Rattle.clk_trace.specs.LegalHistory.{ReachesTarget, NamesSource, IsLegalHist
 use Rattle.clk_trace.specs.SeenBefore.{stood_at, NeverFalls}
 use Rattle.clk_trace.specs.Watchdog.{AreChecks, AreCalledFor}
 use Rattle.clk_trace.specs.Demoted.{HasDemotions}
-use Rattle.clk_demote.specs.declared.events.Demotion.{Demotion}
+use Rattle.clk_record.specs.declared.stable.Demotion.{Demotion}
 use Rattle.clk_trace.specs.declared.trace.WatchTrace.{WatchTrace}
 use Rattle.clk_trace.specs.declared.trace.Trace.{Trace}
 

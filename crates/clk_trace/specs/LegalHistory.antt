@@ -3,9 +3,9 @@ use Rattle.std.specs.Prelude.{◌≡◌, ℕ, ℤ, not, Bool, true, false, ◌&&
 use Rattle.std.specs.Ordering.{int_eq}
 use Rattle.clk_base.specs.Chains.{IsChainBy}
 use Rattle.clk_num.specs.Wrapping.{raise}
-use Rattle.clk_words.specs.declared.step.Why.{Why}
-use Rattle.clk_words.specs.declared.step.Why.TheVariants.{Raise, Couple, Lift}
-use Rattle.clk_words.specs.Targets.{target}
+use Rattle.clk_record.specs.declared.step.Why.{Why}
+use Rattle.clk_record.specs.declared.step.Why.TheVariants.{Raise, Couple, Lift}
+use Rattle.clk_record.specs.Targets.{target}
 use Rattle.clk_trace.specs.Lines.{step_line}
 use Rattle.clk_trace.specs.WordHistory.{Placed, placed_on, IsHistoryOf}
 use Rattle.clk_trace.specs.declared.trace.HistoryStep.{HistoryStep}

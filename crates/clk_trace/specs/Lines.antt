@@ -3,20 +3,20 @@ use Rattle.std.specs.Prelude.{ℕ, ℤ, List, [], ◌∷◌, ◌++◌, codes, de
 use Rattle.std.specs.Fmt.{signed_decimal}
 use Rattle.clk_base.specs.Text.{line}
 use Rattle.clk_machine.specs.declared.reading.RawReading.{RawReading}
-use Rattle.clk_words.specs.declared.opening.Mode.{Mode}
-use Rattle.clk_words.specs.declared.opening.Mode.TheVariants as mode
-use Rattle.clk_warp.specs.declared.side.Side.{Side}
-use Rattle.clk_warp.specs.declared.side.Side.TheVariants.{Source, Target}
-use Rattle.clk_warp.specs.declared.side.WarpReading.{WarpReading}
-use Rattle.clk_warp.specs.declared.outcome.Verdict.{Verdict}
-use Rattle.clk_warp.specs.declared.outcome.Verdict.TheVariants as verdict
-use Rattle.clk_adjust.specs.declared.up.UpOutcome.{UpOutcome}
-use Rattle.clk_adjust.specs.declared.up.UpOutcome.TheVariants as outcome
-use Rattle.clk_watch.specs.declared.attempt.Attempt.{Attempt}
-use Rattle.clk_watch.specs.declared.record.Outcome.{Outcome}
-use Rattle.clk_watch.specs.declared.record.Outcome.TheVariants as visit
-use Rattle.clk_demote.specs.declared.events.StableStamp.{StableStamp}
-use Rattle.clk_demote.specs.declared.events.Demotion.{Demotion}
+use Rattle.clk_record.specs.declared.mode.Mode.{Mode}
+use Rattle.clk_record.specs.declared.mode.Mode.TheVariants as mode
+use Rattle.clk_record.specs.declared.warp.Side.{Side}
+use Rattle.clk_record.specs.declared.warp.Side.TheVariants.{Source, Target}
+use Rattle.clk_record.specs.declared.warp.WarpReading.{WarpReading}
+use Rattle.clk_record.specs.declared.verdict.Verdict.{Verdict}
+use Rattle.clk_record.specs.declared.verdict.Verdict.TheVariants as verdict
+use Rattle.clk_record.specs.declared.up.UpOutcome.{UpOutcome}
+use Rattle.clk_record.specs.declared.up.UpOutcome.TheVariants as outcome
+use Rattle.clk_record.specs.declared.attempt.Attempt.{Attempt}
+use Rattle.clk_record.specs.declared.visit.Outcome.{Outcome}
+use Rattle.clk_record.specs.declared.visit.Outcome.TheVariants as visit
+use Rattle.clk_record.specs.declared.stable.StableStamp.{StableStamp}
+use Rattle.clk_record.specs.declared.stable.Demotion.{Demotion}
 use Rattle.clk_trace.specs.declared.event.Event.{Event}
 use Rattle.clk_trace.specs.declared.event.EventKind.{EventKind}
 use Rattle.clk_trace.specs.declared.event.EventKind.TheVariants as kind

@@ -1,9 +1,9 @@
 -- What stood when the clock of a run became per-CPU: at its start, by a demotion at boot, or by one of the watchdog.
 use Rattle.std.specs.Prelude.{ℕ, ◌==◌, ℤ, Bool, true, false, not, ◌&&◌, is_some, List, [], ◌∷◌, Option, Some, None, if◌then◌else◌}
-use Rattle.clk_words.specs.declared.opening.Mode.{Mode}
-use Rattle.clk_words.specs.declared.opening.Mode.TheVariants as mode
-use Rattle.clk_words.specs.declared.step.Step.{Step}
-use Rattle.clk_demote.specs.declared.events.Demotion.{Demotion}
+use Rattle.clk_record.specs.declared.mode.Mode.{Mode}
+use Rattle.clk_record.specs.declared.mode.Mode.TheVariants as mode
+use Rattle.clk_record.specs.declared.step.Step.{Step}
+use Rattle.clk_record.specs.declared.stable.Demotion.{Demotion}
 use Rattle.clk_trace.specs.declared.trace.WatchTrace.{WatchTrace}
 use Rattle.clk_trace.specs.declared.trace.Trace.{Trace}
 

@@ -2,16 +2,16 @@
 use Rattle.std.specs.Prelude.{ℕ, ◌+◌, ◌==◌, ◌%◌, Bool, ℤ, List, [], ◌∷◌, ◌++◌, map, flat_map, length, slice_index, if◌then◌else◌}
 use Rattle.clk_base.specs.Walk.{flat_from}
 use Rattle.clk_num.specs.Listed.{Listed}
-use Rattle.clk_warp.specs.Verdicts.{verdict_of}
-use Rattle.clk_warp.specs.declared.side.WarpRun.{WarpRun}
-use Rattle.clk_words.specs.declared.step.Step.{Step}
-use Rattle.clk_adjust.specs.declared.up.CpuUp.{CpuUp}
+use Rattle.clk_record.specs.Verdicts.{verdict_of}
+use Rattle.clk_record.specs.declared.warp.WarpRun.{WarpRun}
+use Rattle.clk_record.specs.declared.step.Step.{Step}
+use Rattle.clk_record.specs.declared.up.CpuUp.{CpuUp}
 use Rattle.clk_trace.specs.Lines.{Line, step_line, text_of}
 use Rattle.clk_trace.specs.Lines.Line.{Head, Epoch, Boot, Start, Run, Turn, Done, Cpu, Demoted, Word, Thread, Shown, Watchdog, Checking, Attempted, Judged, Stamped, Lifted, Current, History, End}
 use Rattle.clk_trace.specs.Checks.{Visit, Check, listed, checks_of}
 use Rattle.clk_trace.specs.declared.event.Event.{Event}
-use Rattle.clk_demote.specs.declared.events.StableStamp.{StableStamp}
-use Rattle.clk_demote.specs.declared.events.Demotion.{Demotion}
+use Rattle.clk_record.specs.declared.stable.StableStamp.{StableStamp}
+use Rattle.clk_record.specs.declared.stable.Demotion.{Demotion}
 use Rattle.clk_trace.specs.declared.trace.HistoryStep.{HistoryStep}
 use Rattle.clk_trace.specs.declared.trace.WatchTrace.{WatchTrace}
 use Rattle.clk_trace.specs.declared.trace.Trace.{Trace}

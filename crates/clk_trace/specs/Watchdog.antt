@@ -2,9 +2,9 @@
 use Rattle.std.specs.Prelude.{◌≡◌, ℕ, ◌+◌, Bool, ◌&&◌, List, [], ◌∷◌, map, take, flat_map, length, All, is_some, MatchBool}
 use Rattle.std.specs.List.{AllZip}
 use Rattle.clk_machine.specs.Plan.{Plan, threads_of}
-use Rattle.clk_watch.specs.declared.record.SourceRecord.{SourceRecord}
-use Rattle.clk_watch.specs.Fold.{ends_check, at_first, watch_after, ratings_of, IsCurrent, AreVisits}
-use Rattle.clk_watch.specs.Watching.{checks_asked}
+use Rattle.clk_record.specs.declared.visit.SourceRecord.{SourceRecord}
+use Rattle.clk_record.specs.Fold.{ends_check, at_first, watch_after, ratings_of, IsCurrent, AreVisits}
+use Rattle.clk_record.specs.ChecksAsked.{checks_asked}
 use Rattle.clk_trace.specs.Checks.{listed, visits_of, checks_of}
 use Rattle.clk_trace.specs.declared.trace.WatchTrace.{WatchTrace}
 

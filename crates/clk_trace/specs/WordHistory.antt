@@ -4,8 +4,8 @@ use Rattle.std.specs.declared.cmp.Ordering.{Ordering}
 use Rattle.std.specs.Ordering.{ordering_then, nat_cmp, int_cmp, int_eq, bool_cmp}
 use Rattle.clk_num.specs.Listed.{Listed}
 use Rattle.clk_num.specs.Wrapping.{above}
-use Rattle.clk_words.specs.declared.step.Step.{Step}
-use Rattle.clk_words.specs.declared.step.Why.TheVariants as why
+use Rattle.clk_record.specs.declared.step.Step.{Step}
+use Rattle.clk_record.specs.declared.step.Why.TheVariants as why
 use Rattle.clk_trace.specs.Couples.{named_word, named_value}
 use Rattle.clk_trace.specs.declared.event.Event.{Event}
 use Rattle.clk_trace.specs.declared.event.EventKind.{EventKind}

@@ -2,13 +2,13 @@
 use Rattle.std.specs.Prelude.{ℕ, ◌+◌, ◌==◌, ◌%◌, ℤ, List, ◌++◌, length, slice_index}
 use Rattle.clk_base.specs.Text.{lines_from}
 use Rattle.clk_num.specs.Listed.{Listed}
-use Rattle.clk_warp.specs.declared.side.WarpReading.{WarpReading}
-use Rattle.clk_warp.specs.declared.side.WarpRun.{WarpRun}
-use Rattle.clk_words.specs.declared.step.Step.{Step}
-use Rattle.clk_watch.specs.declared.attempt.Attempt.{Attempt}
-use Rattle.clk_adjust.specs.declared.up.CpuUp.{CpuUp}
-use Rattle.clk_demote.specs.declared.events.StableStamp.{StableStamp}
-use Rattle.clk_demote.specs.declared.events.Demotion.{Demotion}
+use Rattle.clk_record.specs.declared.warp.WarpReading.{WarpReading}
+use Rattle.clk_record.specs.declared.warp.WarpRun.{WarpRun}
+use Rattle.clk_record.specs.declared.step.Step.{Step}
+use Rattle.clk_record.specs.declared.attempt.Attempt.{Attempt}
+use Rattle.clk_record.specs.declared.up.CpuUp.{CpuUp}
+use Rattle.clk_record.specs.declared.stable.StableStamp.{StableStamp}
+use Rattle.clk_record.specs.declared.stable.Demotion.{Demotion}
 use Rattle.clk_trace.specs.Lines.{step_line, line_text}
 use Rattle.clk_trace.specs.Lines.Line.{Run, Turn, Demoted, Word, Thread, Shown, Watchdog, Checking, Attempted, Judged, Stamped, Current, History}
 use Rattle.clk_trace.specs.Checks.{Visit, Check, listed, checks_of}

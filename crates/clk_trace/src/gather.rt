@@ -7,7 +7,7 @@ ghost use Rattle.clk_trace.specs.WordHistory.{steps_of_kind, all_steps, placed_l
 use crate::event::{Event, EventKind};
 use crate::trace::{HistoryStep, Trace, WatchTrace};
 use clk_num::{List, above};
-use clk_words::Step;
+use clk_record::Step;
 
 /// The most threads that are filled in rounds: those of 64 CPUs and of 16 readers.
 const MOST_THREADS: usize = 80;

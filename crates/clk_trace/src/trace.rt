@@ -1,10 +1,8 @@
 //! A whole run: the boot, the bring-up, the events of each thread, and the history of each clock word.
 use crate::event::Event;
-use clk_adjust::BroughtUp;
-use clk_demote::{Demotion, StableStamp};
+use clk_record::{BroughtUp, Demotion, Mode, StableStamp, Step};
 use clk_num::List;
 use clk_watch::Watch;
-use clk_words::{Mode, Step};
 
 /// A step of a clock word: the thread that made it, the number of its script word, the place of its event in the
 /// thread, and the word before and after, in ns.

@@ -5,7 +5,7 @@ ghost use Rattle.clk_base.specs.Causes.{Grew, GrewByPrefix, HasCause};
 ghost use Rattle.clk_base.specs.Text.{line, lines_from};
 ghost use Rattle.clk_trace.specs.Taking.{Takes, progress_of};
 ghost use Rattle.clk_trace.specs.Parts.{part_text, part_room};
-ghost use Rattle.clk_warp.specs.Verdicts.{adjustment};
+ghost use Rattle.clk_record.specs.Verdicts.{adjustment};
 ghost use Rattle.clk_trace.specs.Lines.{kind_words, line_text, mode_name, side_name as name_of_side, outcome_name as name_of_outcome};
 ghost use Rattle.clk_trace.specs.TraceText.{text, cpu_line, done_line};
 ghost use Rattle.clk_trace.specs.WriterParts.{event_text, boot_text, up_text, run_text, reading_text, boot_demotion_text, word_text, thread_text, step_text, history_text};
@@ -18,12 +18,9 @@ use crate::out::{Out, Part, WriteFault};
 use crate::sink::Sink;
 use crate::trace::{HistoryStep, Trace};
 use crate::write_watch::{write_demotion, write_watch};
-use clk_adjust::{CpuUp, UpOutcome};
-use clk_demote::StableStamp;
+use clk_record::{CpuUp, Mode, Side, StableStamp, UpOutcome, WarpReading, WarpRun};
 use clk_machine::{Published, RawReading};
 use clk_num::List;
-use clk_warp::{Side, WarpReading, WarpRun};
-use clk_words::Mode;
 
 /// Writes the trace's text into a sink, and takes no memory. Each thread must have its CPU. Where there is a watchdog,
 /// there must be a history, so that a check has its CPU, and the lists of its checks must be as long as each other,

@@ -13,9 +13,7 @@ use crate::out::Out;
 use crate::out::Part::{Name, Signed, Unsigned};
 use crate::sink::Sink;
 use crate::trace::{Trace, WatchTrace};
-use clk_demote::{Demotion, StableStamp};
-use clk_watch::{Attempt, Outcome, SourceRecord};
-use clk_words::Step;
+use clk_record::{Attempt, Demotion, Outcome, SourceRecord, StableStamp, Step};
 
 /// What the watchdog left, if there is one.
 pub(crate) fn write_watch<K: Sink>(out: &mut Out, sink: &mut K, trace: &Trace)

@@ -8,8 +8,8 @@ use mathlib.Core.List.{IsPrefix}
 use lib.ListN.{get_elem?}
 use Rattle.atomic_table.specs.Table.{Splits, Joins, Final, Seen, opening}
 use Rattle.atomic_table.proofs.Lists.{at_set}
-use Rattle.clk_warp.specs.declared.side.Side.{Side}
-use Rattle.clk_warp.specs.declared.side.Side.TheVariants.{Source, Target}
+use Rattle.clk_record.specs.declared.warp.Side.{Side}
+use Rattle.clk_record.specs.declared.warp.Side.TheVariants.{Source, Target}
 use Rattle.clk_warp.specs.declared.section.Section.{Section}
 use Rattle.clk_warp.specs.declared.view.Role.{Role}
 use Rattle.clk_warp.specs.declared.view.Role.TheVariants.{First, Of, Joined, Spent}

@@ -4,7 +4,7 @@ use Rattle.std.proofs.lemmas.List.Elements.{filter-append}
 use mathlib.Core.Option.{some, some-ne-none}
 use mathlib.Core.List.{IsPrefix}
 use lib.ListN.{get_elem?}
-use Rattle.clk_warp.specs.declared.side.Side.{Side}
+use Rattle.clk_record.specs.declared.warp.Side.{Side}
 use Rattle.clk_warp.specs.declared.section.Section.{Section}
 use Rattle.clk_warp.specs.Run.{Run, change, IsSection, is_of}
 use Rattle.clk_warp.specs.Sections.{after, AreSections, sections_of}

@@ -3,11 +3,11 @@ use Rattle.std.proofs.Common.{◌≡◌, ◌≢◌, ℕ, ◌+◌, ◌-◌, ◌<�
 use Rattle.std.specs.List.{All}
 use Rattle.std.proofs.lemmas.Bool.{le-ltb}
 use Rattle.std.proofs.lemmas.List.Elements.{All-nil, All-cons, All-head, All-tail, All-push, All-weaker, All-filter}
-use Rattle.clk_warp.specs.declared.side.Side.{Side}
-use Rattle.clk_warp.specs.declared.side.Side.TheVariants.{Source, Target}
-use Rattle.clk_warp.specs.declared.side.WarpReading.{WarpReading}
-use Rattle.clk_warp.specs.Sides.{is_same, turns_of}
-use Rattle.clk_warp.specs.Falls.{Limits, Fall, each_after, is_last, turn_before, is_fall, changes, has_fall, through_last}
+use Rattle.clk_record.specs.declared.warp.Side.{Side}
+use Rattle.clk_record.specs.declared.warp.Side.TheVariants.{Source, Target}
+use Rattle.clk_record.specs.declared.warp.WarpReading.{WarpReading}
+use Rattle.clk_record.specs.Sides.{is_same, turns_of}
+use Rattle.clk_record.specs.Falls.{Limits, Fall, each_after, is_last, turn_before, is_fall, changes, has_fall, through_last}
 use Rattle.clk_warp.specs.Laws.{NeverFall, NoFallWhereNoneFalls, GreatestIsMost, SeenIsAtMostGreatest, HasChange, ChangesWhereSidesChange}
 
 -- ---- no fall where none falls

@@ -3,10 +3,10 @@ use Rattle.std.proofs.Common.{◌≡◌, ℕ, ◌-◌, ◌<◌, Bool, true, fals
 use Rattle.std.specs.List.{list_any}
 use Rattle.std.proofs.lemmas.List.Elements.{filter-append}
 use Rattle.std.proofs.lemmas.Grind.{fold-append}
-use Rattle.clk_warp.specs.declared.side.Side.{Side}
-use Rattle.clk_warp.specs.declared.side.WarpReading.{WarpReading}
-use Rattle.clk_warp.specs.Sides.{is_same, of_side, turns_of, first_tsc, last_tsc}
-use Rattle.clk_warp.specs.Falls.{Limits, Fall, each_after, each_place, is_last, ended_sides, is_ended, turn_before, is_fall, falls, greatest}
+use Rattle.clk_record.specs.declared.warp.Side.{Side}
+use Rattle.clk_record.specs.declared.warp.WarpReading.{WarpReading}
+use Rattle.clk_record.specs.Sides.{is_same, of_side, turns_of, first_tsc, last_tsc}
+use Rattle.clk_record.specs.Falls.{Limits, Fall, each_after, each_place, is_last, ended_sides, is_ended, turn_before, is_fall, falls, greatest}
 
 -- what one more reading gives stands behind what the others give
 each_after_push : {A : Type 0} (f : List WarpReading → WarpReading → List A) (front rs : List WarpReading) (r : WarpReading)

@@ -4,7 +4,7 @@ use mathlib.Core.List.{IsPrefix}
 use mathlib.Core.Option.{some, none, some-injective}
 use lib.ListN.{get_elem?}
 use Rattle.atomic_table.specs.Table.{Me, Step, rest, step, Allows}
-use Rattle.clk_warp.specs.declared.side.Side.{Side}
+use Rattle.clk_record.specs.declared.warp.Side.{Side}
 use Rattle.clk_warp.specs.declared.section.Section.{Section}
 use Rattle.clk_warp.specs.declared.seat.TurnSeat.TheInside.{Inside}
 use Rattle.clk_warp.specs.declared.view.Role.TheVariants.{Of}

@@ -28,7 +28,7 @@ use Rattle.clk_machine.specs.contracts.script.Word
 use Rattle.clk_ticket.specs.contracts.seat.TimeSeat
 use Rattle.clk_ticket.specs.contracts.table.TicketTable
 use Rattle.clk_warp.specs.contracts.counts.WarpCounts
-use Rattle.clk_warp.specs.contracts.side.WarpReading
+use Rattle.clk_record.specs.contracts.warp.WarpReading
 use Rattle.clk_warp.specs.contracts.state.TableOf
 use Rattle.clk_warp.specs.contracts.state.Inner
 use Rattle.clk_warp.specs.contracts.state.WarpState

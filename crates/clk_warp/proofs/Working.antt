@@ -6,14 +6,15 @@ use Rattle.std.proofs.lemmas.Bool.{and_parts, and_from}
 use Rattle.std.proofs.lemmas.List.{length_push, same_from_push}
 use mathlib.Core.List.{IsPrefix}
 use Rattle.clk_ticket.specs.Time.{Time, after_draw}
-use Rattle.clk_warp.specs.declared.side.Side.{Side}
-use Rattle.clk_warp.specs.declared.side.Side.TheVariants.{Source, Target}
-use Rattle.clk_warp.specs.declared.side.WarpReading.{WarpReading}
+use Rattle.clk_record.specs.declared.warp.Side.{Side}
+use Rattle.clk_record.specs.declared.warp.Side.TheVariants.{Source, Target}
+use Rattle.clk_record.specs.declared.warp.WarpReading.{WarpReading}
 use Rattle.clk_warp.specs.declared.section.Section.{Section}
 use Rattle.clk_warp.specs.declared.section.Section.TheVariants.{Read, SourceArrives, TargetArrives, Pass}
-use Rattle.clk_warp.specs.Sides.{is_same, of_side, first_tsc}
-use Rattle.clk_warp.specs.Falls.{Limits, each_after, is_over, is_last, is_ended}
-use Rattle.clk_warp.specs.Run.{Run, limits_in, limits_at, both_here, side_ended, change, IsReading}
+use Rattle.clk_record.specs.Sides.{is_same, of_side, first_tsc}
+use Rattle.clk_record.specs.Falls.{Limits, each_after, is_over, is_last, is_ended}
+use Rattle.clk_record.specs.WarpLimits.{limits_in}
+use Rattle.clk_warp.specs.Run.{Run, limits_at, both_here, side_ended, change, IsReading}
 use Rattle.clk_warp.specs.Sections.{after, MayMake, sections_of}
 use Rattle.clk_warp.specs.Turns.{Lock, Turn, Enters, IsChanged, Leaves}
 use Rattle.clk_warp.specs.Working.{readings_of, IsReady}

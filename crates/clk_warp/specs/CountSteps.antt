@@ -1,10 +1,10 @@
 -- What the private steps of the counters do. No public contract cites it.
 use Rattle.std.specs.Prelude.{◌≡◌, ℕ, ◌+◌, ◌-◌, ◌&&◌, not, max, nat_lt, Bool, Some, MatchBool}
-use Rattle.clk_warp.specs.declared.side.Side.{Side}
-use Rattle.clk_warp.specs.declared.side.Side.TheVariants.{Source, Target}
+use Rattle.clk_record.specs.declared.warp.Side.{Side}
+use Rattle.clk_record.specs.declared.warp.Side.TheVariants.{Source, Target}
 use Rattle.clk_warp.specs.declared.progress.Progress.{Progress}
 use Rattle.clk_warp.specs.declared.counts.WarpCounts.{WarpCounts}
-use Rattle.clk_warp.specs.Sides.{one_if_changed}
+use Rattle.clk_record.specs.Sides.{one_if_changed}
 use Rattle.clk_warp.specs.Counts.{limits_of}
 
 -- one side's value in place of the other's

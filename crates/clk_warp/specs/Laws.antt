@@ -1,9 +1,9 @@
 -- What falls mean.
 use Rattle.std.specs.Prelude.{◌≡◌, ◌≢◌, ◌↔◌, ◌<◌, ◌≤◌, List, [], ◌∷◌, ◌++◌}
 use Rattle.std.specs.List.{All}
-use Rattle.clk_warp.specs.declared.side.Side.{Side}
-use Rattle.clk_warp.specs.declared.side.WarpReading.{WarpReading}
-use Rattle.clk_warp.specs.Falls.{Limits, Fall, falls, greatest, changes, greatest_seen}
+use Rattle.clk_record.specs.declared.warp.Side.{Side}
+use Rattle.clk_record.specs.declared.warp.WarpReading.{WarpReading}
+use Rattle.clk_record.specs.Falls.{Limits, Fall, falls, greatest, changes, greatest_seen}
 
 -- no reading is below one before it
 abbrev pub NeverFall : List WarpReading → Type 0

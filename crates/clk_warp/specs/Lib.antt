@@ -1,11 +1,12 @@
-pub mod Sides
-pub mod Falls
+pub use Rattle.clk_record.specs.WarpLimits
+pub use Rattle.clk_record.specs.Sides
+pub use Rattle.clk_record.specs.Falls
 pub mod Few
 pub mod Counts
 pub mod CountSteps
-pub mod Verdicts
+pub use Rattle.clk_record.specs.Verdicts
 pub mod Run
-pub mod Warps
+pub use Rattle.clk_record.specs.Warps
 pub mod Stated
 pub mod Sections
 pub mod LockRule

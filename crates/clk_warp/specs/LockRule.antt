@@ -5,8 +5,8 @@ use mathlib.Core.Option.{some}
 use mathlib.Core.List.{IsPrefix}
 use lib.ListN.{get_elem?}
 use Rattle.atomic_table.specs.Table.{State, Me, Step}
-use Rattle.clk_warp.specs.declared.side.Side.{Side}
-use Rattle.clk_warp.specs.declared.side.Side.TheVariants.{Source, Target}
+use Rattle.clk_record.specs.declared.warp.Side.{Side}
+use Rattle.clk_record.specs.declared.warp.Side.TheVariants.{Source, Target}
 use Rattle.clk_warp.specs.declared.section.Section.{Section}
 use Rattle.clk_warp.specs.declared.view.Role.TheVariants.{First, Of, Joined, Spent}
 use Rattle.clk_warp.specs.declared.view.Stage.{Stage}

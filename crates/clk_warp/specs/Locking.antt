@@ -1,7 +1,7 @@
 -- What the private steps of the warp lock do. No public contract cites it.
 use Rattle.std.specs.Prelude.{◌≡◌, ℕ, [], Option}
 use Rattle.atomic_table.specs.declared.shared.Seat.{Seat}
-use Rattle.clk_warp.specs.declared.side.Side.{Side}
+use Rattle.clk_record.specs.declared.warp.Side.{Side}
 use Rattle.clk_warp.specs.declared.view.Role.TheVariants.{Of}
 use Rattle.clk_warp.specs.declared.view.Stage.TheVariants.{Away, Waiting}
 use Rattle.clk_warp.specs.declared.view.View.{View}

@@ -7,13 +7,14 @@ use Rattle.clk_machine.specs.Plan.{Plan, count_of}
 use Rattle.clk_machine.specs.Time.{counter_at}
 use Rattle.clk_machine.specs.Timeouts.{timeout_of}
 use Rattle.clk_machine.specs.declared.parts.BringUpPart.{BringUpPart}
-use Rattle.clk_warp.specs.declared.side.Side.{Side}
-use Rattle.clk_warp.specs.declared.side.Side.TheVariants.{Source, Target}
-use Rattle.clk_warp.specs.declared.side.WarpReading.{WarpReading}
+use Rattle.clk_record.specs.declared.warp.Side.{Side}
+use Rattle.clk_record.specs.declared.warp.Side.TheVariants.{Source, Target}
+use Rattle.clk_record.specs.declared.warp.WarpReading.{WarpReading}
 use Rattle.clk_warp.specs.declared.section.Section.{Section}
 use Rattle.clk_warp.specs.declared.section.Section.TheVariants.{Read, SourceArrives, TargetArrives, Pass}
-use Rattle.clk_warp.specs.Sides.{is_same}
-use Rattle.clk_warp.specs.Falls.{Limits, is_started, is_ended}
+use Rattle.clk_record.specs.Sides.{is_same}
+use Rattle.clk_record.specs.Falls.{Limits, is_started, is_ended}
+use Rattle.clk_record.specs.WarpLimits.{turns_in, limits_in, cpu_of, side_adjust}
 
 -- the machine, the ticket table, the CPU that is brought up and what it adds to its counter, whether it is here, the
 -- time seat, which the source brings, the readings in lock order, and how many sections were made
@@ -28,18 +29,6 @@ pub record Run : Type 0 where
   pub sections : ℕ
 
 -- ---- limits
-
--- the timeout of both sides' loops in us: the target's
-abbrev pub timeout_in : Plan → Option BringUpPart → ℕ → ℕ
-timeout_in m None cpu = 0
-timeout_in m (Some part) cpu = timeout_of m part cpu
-
-abbrev pub turns_in : Option BringUpPart → ℕ
-turns_in None = 0
-turns_in (Some part) = count_of part.turns
-
-abbrev pub limits_in : Plan → ℕ → Limits
-limits_in m cpu = record { span = count_of m.nominal_khz * timeout_in m m.bringup cpu / 1000; turns = turns_in m.bringup }
 
 abbrev pub limits_at : Run → Limits
 limits_at s = limits_in s.machine s.cpu
@@ -59,14 +48,6 @@ both_here s = is_here Source s && is_here Target s
 
 abbrev pub side_ended : Side → Run → Bool
 side_ended side s = is_ended (limits_at s) side s.readings
-
-abbrev pub cpu_of : Side → ℕ → ℕ
-cpu_of Source cpu = 0
-cpu_of Target cpu = cpu
-
-abbrev pub side_adjust : Side → ℤ → ℤ
-side_adjust Source adjust = pos 0
-side_adjust Target adjust = adjust
 
 -- a reading is the counter of its side's CPU at its ticket
 abbrev pub ShowsCounter : Run → WarpReading → Type 0

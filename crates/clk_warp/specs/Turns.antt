@@ -2,7 +2,7 @@
 use Rattle.std.specs.Prelude.{◌≡◌, ℕ, ◌+◌, ◌^◌, ◌<◌, Bool, true, false, List, [], ◌∷◌, ◌++◌, length, Option, Some, None}
 use mathlib.Core.List.{IsPrefix}
 use Rattle.atomic_table.specs.Seated.{TableId}
-use Rattle.clk_warp.specs.declared.side.Side.{Side}
+use Rattle.clk_record.specs.declared.warp.Side.{Side}
 use Rattle.clk_warp.specs.declared.section.Section.{Section}
 use Rattle.clk_warp.specs.Run.{Run, change, IsSection}
 use Rattle.clk_warp.specs.Sections.{after, AreSections, MayMake, sections_of}

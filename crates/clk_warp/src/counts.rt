@@ -1,10 +1,10 @@
 //! What a warp run counts, turn by turn.
 ghost use Rattle.std.specs.Prelude.{◌≡◌, ◌+◌, ◌^◌, ◌<◌, ◌≤◌, [], not, true, false, if◌then◌else◌};
-ghost use Rattle.clk_warp.specs.Sides.{one_if_changed};
+ghost use Rattle.clk_record.specs.Sides.{one_if_changed};
 ghost use Rattle.clk_warp.specs.Few.{IsFew, AreFew};
 
 use crate::progress::Progress;
-use crate::side::Side;
+use clk_record::Side;
 use std::cmp::max;
 
 /// The counters of a warp run, which take one reading at a time. After the statics `nr_warps`, `max_warp` and
@@ -32,7 +32,7 @@ pub struct WarpCounts {
 }
 
 impl WarpCounts {
-    ghost use Rattle.clk_warp.specs.Falls.{is_started, is_ended};
+    ghost use Rattle.clk_record.specs.Falls.{is_started, is_ended};
     ghost use Rattle.clk_warp.specs.Counts.{progress_of, limits_of, AreCountsOf, AddsReading};
     ghost use Rattle.clk_warp.specs.CountSteps.{WithProgress, WithFall, Compares};
 

@@ -1,9 +1,8 @@
 //! The verdict on a finished run.
 ghost use Rattle.std.specs.Prelude.{◌≡◌, ◌^◌, ◌<◌};
-ghost use Rattle.clk_warp.specs.Verdicts.{verdict_of};
+ghost use Rattle.clk_record.specs.Verdicts.{verdict_of};
 
-use crate::outcome::Verdict;
-use crate::side::WarpRun;
+use clk_record::{Verdict, WarpRun};
 
 /// The verdict on a run with so many runs left, this one among them. A run without a fall passed. Else it failed where
 /// it was the last one or falls changed sides, and else the target adds what it saw itself, or goes back by the

@@ -1,13 +1,13 @@
 //! The warp lock: lock tickets are drawn from one word, and another says which one is served.
 ghost use Rattle.std.specs.Prelude.{◌≡◌, ◌≢◌, ◌+◌, ◌^◌, ◌<◌, false, true, [], IfOk, IfErr, Some, None};
-ghost use Rattle.clk_warp.specs.declared.side.Side.TheVariants.{Source, Target};
+ghost use Rattle.clk_record.specs.declared.warp.Side.TheVariants.{Source, Target};
 ghost use Rattle.clk_warp.specs.Sections.{after};
 ghost use Rattle.clk_warp.specs.Turns.{fresh, Enters, IsChanged, Leaves, Closes};
 ghost use Rattle.clk_warp.specs.LockRule.{knows_first};
 ghost use Rattle.clk_warp.specs.Locking.{IsWaiting, IsOutside, HasDrawn, HasBeenCalled};
 
 use crate::seat::TurnSeat;
-use crate::side::Side;
+use clk_record::Side;
 use crate::state::WarpState;
 use crate::view::{Both, Call, Draw, Give, Look, Raise, Sides, Take, TakingTurns, View};
 use atomic_table::{Refused, Seat, Table};

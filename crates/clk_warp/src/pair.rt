@@ -2,7 +2,7 @@
 ghost use Rattle.std.specs.Prelude.{◌≡◌, ◌+◌, ◌<◌, ◌≤◌, true, [], IfOk, IfErr, IsSome};
 ghost use Rattle.clk_num.specs.Range.{IsNear};
 ghost use Rattle.clk_machine.specs.Plan.{cpu_count};
-ghost use Rattle.clk_warp.specs.declared.side.Side.TheVariants.{Source, Target};
+ghost use Rattle.clk_record.specs.declared.warp.Side.TheVariants.{Source, Target};
 ghost use Rattle.clk_warp.specs.Run.{most_readings, both_here};
 ghost use Rattle.clk_warp.specs.Turns.{fresh};
 ghost use Rattle.clk_warp.specs.Working.{Works};
@@ -10,7 +10,7 @@ ghost use Rattle.clk_warp.specs.Pairs.{IsPaired, IsFinished, HasRun};
 
 use crate::lock::TurnLock;
 use crate::seat::TurnSeat;
-use crate::side::{Side, WarpRun};
+use clk_record::{Side, WarpRun};
 use crate::state::WarpState;
 use crate::worker::{SideEnd, run_side};
 use clk_machine::{Gate, Machine};

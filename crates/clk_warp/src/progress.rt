@@ -1,6 +1,6 @@
 //! How far one side of a warp run is.
 ghost use Rattle.std.specs.Prelude.{◌≡◌, ◌+◌, ◌^◌, ◌<◌, true, false};
-ghost use Rattle.clk_warp.specs.Falls.{is_over};
+ghost use Rattle.clk_record.specs.Falls.{is_over};
 
 /// How many turns apart a side looks whether to end: it is a power of two, so that the look costs little, as in Linux.
 const LOOK_EVERY: u32 = 8;

@@ -1,7 +1,7 @@
 //! A seat at the warp lock, one for each side.
 ghost use Rattle.std.specs.Prelude.{◌≡◌, Some, IsSome};
 
-use crate::side::Side;
+use clk_record::Side;
 use crate::state::WarpState;
 use crate::view::View;
 use atomic_table::Seat;

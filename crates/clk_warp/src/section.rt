@@ -1,5 +1,5 @@
 //! What one section under the warp lock is.
-use crate::side::WarpReading;
+use clk_record::WarpReading;
 use clk_ticket::TimeSeat;
 
 // No value of it is made: contracts list the sections of a run. A reading, the source with the run's time seat and what

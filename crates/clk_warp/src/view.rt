@@ -1,6 +1,6 @@
 //! What the seats of a warp lock know, the rule over it, and what each step does to it.
 use crate::section::Section;
-use crate::side::Side;
+use clk_record::Side;
 use crate::state::WarpState;
 use atomic_table::{Join, Play, Split, TableRule};
 use std::collections::LinkedList;
@@ -107,7 +107,7 @@ impl Play<Option<WarpState>, View> for Raise {
 pub(crate) struct Sides;
 
 impl Split<View> for Sides {
-    ghost use Rattle.clk_warp.specs.declared.side.Side.TheVariants.{Source, Target};
+    ghost use Rattle.clk_record.specs.declared.warp.Side.TheVariants.{Source, Target};
     ghost use Rattle.clk_warp.specs.LockRule.{knows_side};
 
     ghost left = { knows_side Source };

@@ -1,14 +1,14 @@
 //! One side of a warp run.
 ghost use Rattle.std.specs.Prelude.{◌≡◌, ◌+◌, ◌^◌, ◌<◌, ◌≤◌, false, [], length};
 ghost use mathlib.Core.List.{IsPrefix};
-ghost use Rattle.clk_warp.specs.Sides.{of_side};
-ghost use Rattle.clk_warp.specs.Falls.{is_ended};
+ghost use Rattle.clk_record.specs.Sides.{of_side};
+ghost use Rattle.clk_record.specs.Falls.{is_ended};
 ghost use Rattle.clk_warp.specs.Run.{limits_at};
 ghost use Rattle.clk_warp.specs.Working.{readings_of, IsReady, Works};
 
 use crate::lock::TurnLock;
 use crate::seat::TurnSeat;
-use crate::side::Side;
+use clk_record::Side;
 use clk_machine::{Gate, Machine};
 use clk_ticket::TicketTable;
 use std::sync::Wait;

@@ -6,13 +6,13 @@ use Rattle.clk_num.specs.Listed.{Listed}
 use Rattle.clk_ticket.specs.Time.{Time}
 use Rattle.clk_machine.specs.Plan.{Plan, count_of}
 use Rattle.clk_machine.specs.Time.{source_plan_at}
-use Rattle.clk_watch.specs.declared.attempt.Attempt.{Attempt}
-use Rattle.clk_watch.specs.declared.attempt.Bracket.{Bracket}
-use Rattle.clk_watch.specs.declared.record.Outcome.{Outcome}
-use Rattle.clk_watch.specs.declared.record.SourceRecord.{SourceRecord}
-use Rattle.clk_watch.specs.declared.watched.Watched.{Watched}
+use Rattle.clk_record.specs.declared.attempt.Attempt.{Attempt}
+use Rattle.clk_record.specs.declared.attempt.Bracket.{Bracket}
+use Rattle.clk_record.specs.declared.visit.Outcome.{Outcome}
+use Rattle.clk_record.specs.declared.visit.SourceRecord.{SourceRecord}
+use Rattle.clk_record.specs.declared.watched.Watched.{Watched}
 use Rattle.clk_watch.specs.Brackets.{Tries, Brackets}
-use Rattle.clk_watch.specs.Fold.{outcome_of, is_lost, source_at_first, at_first, left_by, watched_at, attempts_of, last_of, pair_of, after_record, watch_after, IsReadBy, IsVisit, AreVisits}
+use Rattle.clk_record.specs.Fold.{outcome_of, is_lost, source_at_first, at_first, left_by, watched_at, attempts_of, last_of, pair_of, after_record, watch_after, IsReadBy, IsVisit, AreVisits}
 use Rattle.clk_watch.specs.Visiting.{IsRead, HasFlags, pair_in}
 use Rattle.clk_watch.specs.Watching.{Watching, kept_of, Visits, Checks}
 use Rattle.clk_watch.proofs.Trial.{no_tries}

@@ -5,15 +5,15 @@ use Rattle.std.specs.List.{All}
 use Rattle.std.proofs.lemmas.List.{get_or_at}
 use Rattle.std.proofs.lemmas.List.Elements.{All-map, All-set, All-get_or}
 use Rattle.clk_machine.specs.Plan.{Plan}
-use Rattle.clk_watch.specs.declared.attempt.Attempt.{Attempt}
-use Rattle.clk_watch.specs.declared.attempt.Bracket.{Bracket}
-use Rattle.clk_watch.specs.declared.attempt.Bracket.TheVariants.{Accepted, Skip as SkipBracket, Slow as SlowBracket}
-use Rattle.clk_watch.specs.declared.record.Outcome.{Outcome}
-use Rattle.clk_watch.specs.declared.record.Outcome.TheVariants.{Passed, Slow, Skip, First, Good, Bad}
-use Rattle.clk_watch.specs.declared.watched.Pair.{Pair}
-use Rattle.clk_watch.specs.declared.watched.Watched.{Watched}
-use Rattle.clk_watch.specs.Brackets.{skew_of, reference_ns, decided, IsBracket}
-use Rattle.clk_watch.specs.Fold.{outcome_of, ends_check, unmarked, left_of, left_by, watched_at, last_of, pair_of, IsReadBy}
+use Rattle.clk_record.specs.declared.attempt.Attempt.{Attempt}
+use Rattle.clk_record.specs.declared.attempt.Bracket.{Bracket}
+use Rattle.clk_record.specs.declared.attempt.Bracket.TheVariants.{Accepted, Skip as SkipBracket, Slow as SlowBracket}
+use Rattle.clk_record.specs.declared.visit.Outcome.{Outcome}
+use Rattle.clk_record.specs.declared.visit.Outcome.TheVariants.{Passed, Slow, Skip, First, Good, Bad}
+use Rattle.clk_record.specs.declared.watched.Pair.{Pair}
+use Rattle.clk_record.specs.declared.watched.Watched.{Watched}
+use Rattle.clk_record.specs.Attempts.{skew_of, reference_ns, decided, IsBracket}
+use Rattle.clk_record.specs.Fold.{outcome_of, ends_check, unmarked, left_of, left_by, watched_at, last_of, pair_of, IsReadBy}
 use Rattle.clk_watch.specs.Small.{IsSmallPair, IsSmallWatched, IsSmallBracket}
 use Rattle.clk_watch.specs.Visiting.{pair_in}
 

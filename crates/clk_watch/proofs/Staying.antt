@@ -9,16 +9,16 @@ use Rattle.std.proofs.lemmas.List.Elements.{All-nil, All-cons}
 use Rattle.clk_machine.specs.Plan.{Plan, SourcePlan, count_of}
 use Rattle.clk_machine.specs.Limits.{IsWithinLimits}
 use Rattle.clk_machine.specs.Time.{source_plan_at}
-use Rattle.clk_watch.specs.declared.attempt.Attempt.{Attempt}
-use Rattle.clk_watch.specs.declared.attempt.Bracket.{Bracket}
-use Rattle.clk_watch.specs.declared.attempt.Bracket.TheVariants.{Accepted, Skip as SkipBracket, Slow as SlowBracket}
-use Rattle.clk_watch.specs.declared.record.Outcome.{Outcome}
-use Rattle.clk_watch.specs.declared.record.Outcome.TheVariants.{Passed, Slow, Skip, First, Good, Bad}
-use Rattle.clk_watch.specs.declared.record.SourceRecord.{SourceRecord}
-use Rattle.clk_watch.specs.declared.watched.Pair.{Pair}
-use Rattle.clk_watch.specs.declared.watched.Watched.{Watched}
-use Rattle.clk_watch.specs.Brackets.{reference_ns}
-use Rattle.clk_watch.specs.Fold.{source_ns, margin_of, compared, judged, outcome_of, is_lost, ends_check, source_at_first, at_first, unmarked, left_of, left_by, watched_at, attempts_of, last_of, pair_of, after_record, watch_after, ratings_of, IsCurrent, IsReadBy, IsVisit, AreVisits}
+use Rattle.clk_record.specs.declared.attempt.Attempt.{Attempt}
+use Rattle.clk_record.specs.declared.attempt.Bracket.{Bracket}
+use Rattle.clk_record.specs.declared.attempt.Bracket.TheVariants.{Accepted, Skip as SkipBracket, Slow as SlowBracket}
+use Rattle.clk_record.specs.declared.visit.Outcome.{Outcome}
+use Rattle.clk_record.specs.declared.visit.Outcome.TheVariants.{Passed, Slow, Skip, First, Good, Bad}
+use Rattle.clk_record.specs.declared.visit.SourceRecord.{SourceRecord}
+use Rattle.clk_record.specs.declared.watched.Pair.{Pair}
+use Rattle.clk_record.specs.declared.watched.Watched.{Watched}
+use Rattle.clk_record.specs.Attempts.{reference_ns}
+use Rattle.clk_record.specs.Fold.{source_ns, margin_of, compared, judged, outcome_of, is_lost, ends_check, source_at_first, at_first, unmarked, left_of, left_by, watched_at, attempts_of, last_of, pair_of, after_record, watch_after, ratings_of, IsCurrent, IsReadBy, IsVisit, AreVisits}
 use Rattle.clk_watch.specs.Laws.{IsHealthy, HealthyIsNeverDemoted, DemotedStaysOut, LostAtBootStaysOut}
 use Rattle.clk_watch.proofs.Growing.{length_left, length_after}
 use Rattle.clk_watch.proofs.Leaving.{accepted_is, slow_is}

@@ -8,11 +8,12 @@ use Rattle.std.proofs.lemmas.Grind.{flat_map-append}
 use Rattle.clk_num.specs.Listed.{Listed}
 use Rattle.clk_ticket.specs.Time.{Time}
 use Rattle.clk_machine.specs.Plan.{Plan}
-use Rattle.clk_watch.specs.declared.attempt.Attempt.{Attempt}
-use Rattle.clk_watch.specs.declared.attempt.Bracket.{Bracket}
-use Rattle.clk_watch.specs.declared.attempt.Bracket.TheVariants.{Slow}
+use Rattle.clk_record.specs.declared.attempt.Attempt.{Attempt}
+use Rattle.clk_record.specs.declared.attempt.Bracket.{Bracket}
+use Rattle.clk_record.specs.declared.attempt.Bracket.TheVariants.{Slow}
 use Rattle.clk_watch.specs.Draws.{DrawsEach}
-use Rattle.clk_watch.specs.Brackets.{decided, retries_of, IsRightAttempt, Tries, Brackets}
+use Rattle.clk_record.specs.Attempts.{decided, retries_of, IsRightAttempt}
+use Rattle.clk_watch.specs.Brackets.{Tries, Brackets}
 use Rattle.clk_watch.specs.Trying.{TriesOnce}
 use Rattle.clk_watch.proofs.Drawing.{no_draws, then_draws}
 

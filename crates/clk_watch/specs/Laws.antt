@@ -5,14 +5,14 @@ use Rattle.std.specs.List.{All}
 use Rattle.clk_machine.specs.Plan.{Plan}
 use Rattle.clk_machine.specs.Limits.{IsWithinLimits}
 use Rattle.clk_machine.specs.Time.{source_plan_at}
-use Rattle.clk_watch.specs.declared.attempt.Attempt.{Attempt}
-use Rattle.clk_watch.specs.declared.attempt.Bracket.TheVariants.{Accepted}
-use Rattle.clk_watch.specs.declared.record.Outcome.TheVariants.{Passed}
-use Rattle.clk_watch.specs.declared.record.SourceRecord.{SourceRecord}
-use Rattle.clk_watch.specs.declared.watched.Pair.{Pair}
-use Rattle.clk_watch.specs.declared.watched.Watched.{Watched}
-use Rattle.clk_watch.specs.Brackets.{reference_ns, decided}
-use Rattle.clk_watch.specs.Fold.{source_ns, margin_of, is_lost, at_first, watched_at, attempts_of, last_of, after_record, watch_after, ratings_of, IsCurrent, AreVisits}
+use Rattle.clk_record.specs.declared.attempt.Attempt.{Attempt}
+use Rattle.clk_record.specs.declared.attempt.Bracket.TheVariants.{Accepted}
+use Rattle.clk_record.specs.declared.visit.Outcome.TheVariants.{Passed}
+use Rattle.clk_record.specs.declared.visit.SourceRecord.{SourceRecord}
+use Rattle.clk_record.specs.declared.watched.Pair.{Pair}
+use Rattle.clk_record.specs.declared.watched.Watched.{Watched}
+use Rattle.clk_record.specs.Attempts.{reference_ns, decided}
+use Rattle.clk_record.specs.Fold.{source_ns, margin_of, is_lost, at_first, watched_at, attempts_of, last_of, after_record, watch_after, ratings_of, IsCurrent, AreVisits}
 
 -- in a visit some attempt decided, and where it was accepted after a kept pair, the source and the watchdog went the
 -- same time since then, but for the margin

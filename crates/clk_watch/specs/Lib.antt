@@ -1,7 +1,9 @@
+pub use Rattle.clk_record.specs.ChecksAsked
+pub use Rattle.clk_record.specs.Attempts
 pub mod Draws
 pub mod Brackets
 pub mod Trying
-pub mod Fold
+pub use Rattle.clk_record.specs.Fold
 pub mod Visiting
 pub mod Watching
 pub mod Laws

@@ -3,14 +3,15 @@ use Rattle.std.specs.Prelude.{◌↔◌, ℕ, ◌+◌, ◌≤◌, Bool, ◌&&◌
 use Rattle.clk_num.specs.Listed.{Listed}
 use Rattle.clk_ticket.specs.Time.{Time}
 use Rattle.clk_machine.specs.Plan.{Plan}
-use Rattle.clk_watch.specs.declared.attempt.Attempt.{Attempt}
-use Rattle.clk_watch.specs.declared.attempt.Bracket.{Bracket}
-use Rattle.clk_watch.specs.declared.attempt.Bracket.TheVariants.{Accepted}
-use Rattle.clk_watch.specs.declared.record.Outcome.{Outcome}
-use Rattle.clk_watch.specs.declared.watched.Pair.{Pair}
-use Rattle.clk_watch.specs.declared.watched.Watched.{Watched}
-use Rattle.clk_watch.specs.Brackets.{retries_of, Tries}
-use Rattle.clk_watch.specs.Fold.{is_good, IsCurrent, IsReadBy}
+use Rattle.clk_record.specs.declared.attempt.Attempt.{Attempt}
+use Rattle.clk_record.specs.declared.attempt.Bracket.{Bracket}
+use Rattle.clk_record.specs.declared.attempt.Bracket.TheVariants.{Accepted}
+use Rattle.clk_record.specs.declared.visit.Outcome.{Outcome}
+use Rattle.clk_record.specs.declared.watched.Pair.{Pair}
+use Rattle.clk_record.specs.declared.watched.Watched.{Watched}
+use Rattle.clk_record.specs.Attempts.{retries_of}
+use Rattle.clk_watch.specs.Brackets.{Tries}
+use Rattle.clk_record.specs.Fold.{is_good, IsCurrent, IsReadBy}
 
 -- a source was read, if it is not unstable, and these attempts were made and appended
 pub record IsRead (m : Plan) (cpu : ℕ) (adjust : ℤ) (s : ℕ) (w : Watched) (before after : Listed Attempt) (t u : Time) (ends : Option Bracket) : Type 0 where

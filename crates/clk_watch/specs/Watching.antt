@@ -4,11 +4,13 @@ use Rattle.clk_num.specs.Listed.{Listed}
 use Rattle.clk_ticket.specs.Time.{Time}
 use Rattle.clk_machine.specs.declared.parts.WatchPart.{WatchPart}
 use Rattle.clk_machine.specs.Plan.{Plan, count_of}
-use Rattle.clk_watch.specs.declared.attempt.Attempt.{Attempt}
-use Rattle.clk_watch.specs.declared.record.SourceRecord.{SourceRecord}
-use Rattle.clk_watch.specs.declared.watched.Watched.{Watched}
-use Rattle.clk_watch.specs.Brackets.{retries_of, Tries}
-use Rattle.clk_watch.specs.Fold.{at_first, after_record, watch_after, IsVisit}
+use Rattle.clk_record.specs.declared.attempt.Attempt.{Attempt}
+use Rattle.clk_record.specs.declared.visit.SourceRecord.{SourceRecord}
+use Rattle.clk_record.specs.declared.watched.Watched.{Watched}
+use Rattle.clk_record.specs.Attempts.{retries_of}
+use Rattle.clk_watch.specs.Brackets.{Tries}
+use Rattle.clk_record.specs.Fold.{at_first, after_record, watch_after, IsVisit}
+use Rattle.clk_record.specs.ChecksAsked.{checks_asked}
 
 -- the machine that is watched, whether its TSC source was lost at boot, and the attempts and records so far
 pub record Watching : Type 0 where
@@ -20,11 +22,6 @@ pub record Watching : Type 0 where
 -- what is kept of the sources
 abbrev pub kept_of : Watching → List Watched
 kept_of w = watch_after w.attempts.items (at_first w.machine w.tsc_unstable) w.records.items
-
--- how many checks a machine asks for, none without a watchdog, and how many visits they make at most
-abbrev pub checks_asked : Option WatchPart → ℕ
-checks_asked None = 0
-checks_asked (Some w) = count_of w.checks
 
 abbrev pub most_visits : Plan → ℕ
 most_visits m = checks_asked m.watchdog * length m.source

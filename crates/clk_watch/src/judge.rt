@@ -1,13 +1,11 @@
 //! What a bracket says of a source.
 ghost use Rattle.std.specs.Prelude.{◌≡◌, ◌^◌, ◌<◌, length};
 ghost use Rattle.clk_machine.specs.Limits.{IsWithinLimits};
-ghost use Rattle.clk_watch.specs.Fold.{compared, judged as judged_by, outcome_of as outcome_by, is_good, is_lost};
+ghost use Rattle.clk_record.specs.Fold.{compared, judged as judged_by, outcome_of as outcome_by, is_good, is_lost};
 ghost use Rattle.clk_watch.specs.Small.{IsSmallBracket, IsSmallKept, IsSmallPair, IsSmallWatched};
 
-use crate::attempt::Bracket;
+use clk_record::{Bracket, Outcome, Pair, Watched};
 use crate::numbers::{margin, reference_ns, source_ns};
-use crate::record::Outcome;
-use crate::watched::{Pair, Watched};
 use clk_machine::Machine;
 
 /// The outcome at source `s` by how its bracket ended, if it was read.

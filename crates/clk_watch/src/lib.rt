@@ -19,23 +19,18 @@
 //! Linux. The functions [`healthy_is_never_demoted`] and [`demoted_stays_out`] do nothing: they carry laws of the fold.
 #![tactic(auto)]
 
-mod attempt;
 mod judge;
 mod laws;
 mod numbers;
 mod place;
 mod readings;
-mod record;
 mod settle;
 #[cfg(test)]
 mod tests;
 mod tries;
 mod visit;
 mod watch;
-mod watched;
 
-pub use attempt::{Attempt, Bracket};
+pub use clk_record::{Attempt, Bracket, Outcome, Pair, SourceRecord, Watched};
 pub use laws::{demoted_stays_out, healthy_is_never_demoted};
-pub use record::{Outcome, SourceRecord};
 pub use watch::Watch;
-pub use watched::{Pair, Watched};

@@ -1,8 +1,8 @@
 //! Which source is current.
 ghost use Rattle.std.specs.Prelude.{◌≡◌, ◌^◌, ◌<◌, ◌≤◌, [], ◌∷◌, ◌++◌, map, length, slice_index};
-ghost use Rattle.clk_watch.specs.Fold.{IsCurrent};
+ghost use Rattle.clk_record.specs.Fold.{IsCurrent};
 
-use crate::watched::Watched;
+use clk_record::Watched;
 
 /// The place of the source with the greatest rating, the first on a tie. The reference comes last.
 pub(crate) fn current_place(sources: &[Watched], reference: u32) -> u32

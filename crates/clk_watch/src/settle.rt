@@ -1,9 +1,8 @@
 //! What a record leaves of the sources.
 ghost use Rattle.std.specs.Prelude.{◌≡◌, ◌<◌, map, length, true, Some};
-ghost use Rattle.clk_watch.specs.Fold.{unmarked, left_of as left_by_outcome, left_by};
+ghost use Rattle.clk_record.specs.Fold.{unmarked, left_of as left_by_outcome, left_by};
 
-use crate::record::Outcome;
-use crate::watched::{Pair, Watched};
+use clk_record::{Outcome, Pair, Watched};
 use clk_num::List;
 
 /// Keeps of source `s` and the others what an outcome leaves. `now` is the accepted pair, if there is one.

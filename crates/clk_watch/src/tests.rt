@@ -3,7 +3,7 @@ ghost use Rattle.std.specs.Prelude.{◌≡◌, ◌+◌, ◌*◌, ◌^◌, ◌<�
 ghost use Rattle.std.specs.List.{All};
 ghost use Rattle.clk_machine.specs.Plan.{plan_of, cpu_plan, cpu_count};
 ghost use Rattle.clk_machine.specs.Short.{IsShortCpu, IsWellFormed};
-ghost use Rattle.clk_watch.specs.Brackets.{retries_of};
+ghost use Rattle.clk_record.specs.Attempts.{retries_of};
 
 use crate::judge::compare;
 use crate::numbers::retries;

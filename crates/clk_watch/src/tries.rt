@@ -3,11 +3,12 @@ ghost use Rattle.std.specs.Prelude.{◌≡◌, ◌+◌, ◌*◌, ◌≤◌, ◌<
 ghost use Rattle.clk_num.specs.Range.{IsNear};
 ghost use Rattle.clk_machine.specs.Plan.{cpu_count};
 ghost use Rattle.clk_machine.specs.Limits.{IsWithinLimits};
-ghost use Rattle.clk_watch.specs.Brackets.{decided, retries_of, Brackets};
+ghost use Rattle.clk_record.specs.Attempts.{decided, retries_of};
+ghost use Rattle.clk_watch.specs.Brackets.{Brackets};
 ghost use Rattle.clk_watch.specs.Small.{IsSmallAttempt, IsSmallBracket};
 ghost use Rattle.clk_watch.specs.Trying.{TriesOnce};
 
-use crate::attempt::{Attempt, Bracket};
+use clk_record::{Attempt, Bracket};
 use crate::numbers::{reference_ns, retries, skew};
 use crate::readings::attempt;
 use clk_machine::{CpuCounter, Machine};

@@ -2,17 +2,16 @@
 ghost use Rattle.std.specs.Prelude.{◌≡◌, ◌+◌, ◌*◌, ◌<◌, ◌≤◌, IfOk, length};
 ghost use Rattle.clk_num.specs.Range.{IsNear};
 ghost use Rattle.clk_machine.specs.Plan.{cpu_count};
-ghost use Rattle.clk_watch.specs.Brackets.{retries_of, Brackets};
-ghost use Rattle.clk_watch.specs.Fold.{at_first, ratings_of, IsCurrent, AreVisits};
+ghost use Rattle.clk_record.specs.Attempts.{retries_of};
+ghost use Rattle.clk_watch.specs.Brackets.{Brackets};
+ghost use Rattle.clk_record.specs.Fold.{at_first, ratings_of, IsCurrent, AreVisits};
 ghost use Rattle.clk_watch.specs.Watching.{Watching, kept_of, started, Checks};
 
-use crate::attempt::{Attempt, Bracket};
+use clk_record::{Attempt, Bracket, SourceRecord, Watched};
 use crate::numbers::{count, retries, visits};
 use crate::place::current_place;
-use crate::record::SourceRecord;
 use crate::tries::bracket_of;
 use crate::visit::{first_watched, visit};
-use crate::watched::Watched;
 use clk_machine::{CpuCounter, Machine};
 use clk_num::List;
 use clk_ticket::{TicketTable, TimeSeat};

@@ -6,11 +6,11 @@ use Rattle.std.proofs.lemmas.List.Elements.{All-nil, All-cons, All-head, All-tai
 use Rattle.clk_machine.specs.Plan.{Plan}
 use Rattle.clk_machine.specs.Limits.{IsWithinLimits}
 use Rattle.clk_machine.specs.Time.{source_plan_at}
-use Rattle.clk_watch.specs.declared.attempt.Attempt.{Attempt}
-use Rattle.clk_watch.specs.declared.record.Outcome.TheVariants.{Passed}
-use Rattle.clk_watch.specs.declared.record.SourceRecord.{SourceRecord}
-use Rattle.clk_watch.specs.declared.watched.Watched.{Watched}
-use Rattle.clk_watch.specs.Fold.{is_good, is_lost, pair_of, last_of, attempts_of, after_record, IsVisit, AreVisits}
+use Rattle.clk_record.specs.declared.attempt.Attempt.{Attempt}
+use Rattle.clk_record.specs.declared.visit.Outcome.TheVariants.{Passed}
+use Rattle.clk_record.specs.declared.visit.SourceRecord.{SourceRecord}
+use Rattle.clk_record.specs.declared.watched.Watched.{Watched}
+use Rattle.clk_record.specs.Fold.{is_good, is_lost, pair_of, last_of, attempts_of, after_record, IsVisit, AreVisits}
 use Rattle.clk_watch.proofs.Growing.{length_left}
 use Rattle.clk_watch.proofs.Staying.{demoted_stays}
 use Rattle.clk_trace.specs.Checks.{Visit}

@@ -8,8 +8,8 @@ use Rattle.clk_num.specs.Listed.{Listed}
 use Rattle.clk_ticket.specs.Time.{Time, Draws}
 use Rattle.clk_machine.specs.Plan.{Plan, SourcePlan, cpu_count}
 use Rattle.clk_machine.specs.Limits.{IsWithinLimits}
-use Rattle.clk_watch.specs.Brackets.{retries_of}
-use Rattle.clk_watch.specs.Fold.{at_first, ratings_of, IsCurrent, AreVisits}
+use Rattle.clk_record.specs.Attempts.{retries_of}
+use Rattle.clk_record.specs.Fold.{at_first, ratings_of, IsCurrent, AreVisits}
 use Rattle.clk_watch.specs.Watching.{Watching, kept_of}
 use Rattle.clk_demote.specs.Context.{site_of, Keeps}
 use Rattle.clk_trace.specs.Checks.{Check, listed, pause_of}

@@ -13,10 +13,10 @@ use Rattle.clk_machine.specs.Limits.{IsWithinLimits}
 use Rattle.clk_machine.specs.Records.{above_base}
 use Rattle.clk_latch.specs.Epoch.{Place}
 use Rattle.clk_local.specs.Context.{BeginsAtBase}
-use Rattle.clk_demote.specs.declared.events.StableStamp.{StableStamp}
-use Rattle.clk_demote.specs.declared.events.Demotion.{Demotion}
+use Rattle.clk_record.specs.declared.stable.StableStamp.{StableStamp}
+use Rattle.clk_record.specs.declared.stable.Demotion.{Demotion}
 use Rattle.clk_demote.specs.Context.{site_of, IsUnlifted, Keeps}
-use Rattle.clk_demote.specs.Demotions.{offset_by}
+use Rattle.clk_record.specs.Demotions.{offset_by}
 use Rattle.clk_trace.specs.Checks.{listed}
 use Rattle.clk_trace.specs.declared.trace.WatchTrace.{WatchTrace}
 use Rattle.clk_worker.specs.declared.shared.Shared.{Shared}

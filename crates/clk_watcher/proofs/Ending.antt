@@ -5,8 +5,8 @@ use Rattle.std.specs.List.{All, AllZip, flat_map}
 use Rattle.std.proofs.lemmas.List.{length-map}
 use Rattle.std.proofs.lemmas.List.Elements.{All-nil, All-cons}
 use Rattle.clk_base.specs.Walk.{EachFrom}
-use Rattle.clk_watch.specs.Fold.{source_at_first, at_first, AreVisits}
-use Rattle.clk_watch.specs.Watching.{checks_asked}
+use Rattle.clk_record.specs.Fold.{source_at_first, at_first, AreVisits}
+use Rattle.clk_record.specs.ChecksAsked.{checks_asked}
 use Rattle.clk_trace.specs.Checks.{Visit, Check, listed, visits_of, checks_of}
 use Rattle.clk_trace.specs.Checks.{checks_from, visits_from}
 use Rattle.clk_trace.specs.RightReadings.{NeverFall}

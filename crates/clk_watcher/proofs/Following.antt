@@ -1,7 +1,7 @@
 -- What follows a record: a stamp, the demotion, or neither.
 use Rattle.std.proofs.Common.{◌≡◌, ℕ, Some, None, [], ◌∷◌, ◌++◌, refl, sym, ◌∙◌, ap, arith, append-nil}
 use Rattle.std.specs.Prelude.{Bool, true, false}
-use Rattle.clk_watch.specs.declared.record.SourceRecord.{SourceRecord}
+use Rattle.clk_record.specs.declared.visit.SourceRecord.{SourceRecord}
 use Rattle.clk_trace.specs.Checks.{listed}
 use Rattle.clk_trace.specs.declared.trace.WatchTrace.{WatchTrace}
 use Rattle.clk_watcher.specs.Calling.{Context, known, IsStable, Follows, Stamps, Demotes}

@@ -7,10 +7,10 @@ use Rattle.clk_base.specs.declared.block.Block.{Block}
 use Rattle.clk_base.specs.Blocks.{end_of, Rises, RisesFrom}
 use Rattle.clk_base.proofs.Rising.{rises_back, rises_from}
 use Rattle.clk_ticket.specs.Time.{Time, Draws, share_of}
-use Rattle.clk_watch.specs.declared.attempt.Attempt.{Attempt}
+use Rattle.clk_record.specs.declared.attempt.Attempt.{Attempt}
 use Rattle.clk_watch.specs.Draws.{single}
-use Rattle.clk_demote.specs.declared.events.StableStamp.{StableStamp}
-use Rattle.clk_demote.specs.declared.events.Demotion.{Demotion}
+use Rattle.clk_record.specs.declared.stable.StableStamp.{StableStamp}
+use Rattle.clk_record.specs.declared.stable.Demotion.{Demotion}
 use Rattle.clk_demote.specs.Context.{Site, Known}
 use Rattle.clk_trace.specs.Checks.{Visit, Check, listed, one, stamp_blocks, demotion_blocks, visit_blocks, check_blocks, watch_blocks, pause_of}
 use Rattle.clk_trace.specs.RightReadings.{check_cpu}

@@ -19,8 +19,8 @@ use Rattle.clk_machine.specs.declared.reading.Published.{Published}
 use Rattle.clk_latch.specs.Epoch.{Epoch}
 use Rattle.clk_latch.proofs.Prefixes.{prefix_self, prefix_trans, prefix_length}
 use Rattle.clk_latch.proofs.Staying.{stay_right}
-use Rattle.clk_demote.specs.declared.events.StableStamp.{StableStamp}
-use Rattle.clk_demote.specs.declared.events.Demotion.{Demotion}
+use Rattle.clk_record.specs.declared.stable.StableStamp.{StableStamp}
+use Rattle.clk_record.specs.declared.stable.Demotion.{Demotion}
 use Rattle.clk_demote.specs.Context.{Site, Known}
 use Rattle.clk_demote.specs.Shows.{adjust_at, TakesStamp}
 use Rattle.clk_demote.specs.Stamping.{epoch_at, ReadsAt}

@@ -14,14 +14,15 @@ use Rattle.clk_machine.specs.declared.parts.WatchPart.{WatchPart}
 use Rattle.clk_machine.specs.Plan.{Plan, cpu_count}
 use Rattle.clk_machine.specs.Limits.{IsWithinLimits, IfThere, IsWatch}
 use Rattle.clk_machine.specs.Tickets.{watch_tickets}
-use Rattle.clk_watch.specs.declared.attempt.Attempt.{Attempt}
-use Rattle.clk_watch.specs.declared.record.SourceRecord.{SourceRecord}
-use Rattle.clk_watch.specs.declared.watched.Watched.{Watched}
-use Rattle.clk_watch.specs.Brackets.{retries_of}
-use Rattle.clk_watch.specs.Fold.{at_first, after_record, watch_after, ratings_of, IsCurrent, AreVisits}
-use Rattle.clk_watch.specs.Watching.{Watching, checks_asked, most_visits}
+use Rattle.clk_record.specs.declared.attempt.Attempt.{Attempt}
+use Rattle.clk_record.specs.declared.visit.SourceRecord.{SourceRecord}
+use Rattle.clk_record.specs.declared.watched.Watched.{Watched}
+use Rattle.clk_record.specs.Attempts.{retries_of}
+use Rattle.clk_record.specs.Fold.{at_first, after_record, watch_after, ratings_of, IsCurrent, AreVisits}
+use Rattle.clk_record.specs.ChecksAsked.{checks_asked}
+use Rattle.clk_watch.specs.Watching.{Watching, most_visits}
 use Rattle.clk_watch.proofs.Growing.{grow_after}
-use Rattle.clk_demote.specs.declared.events.Demotion.{Demotion}
+use Rattle.clk_record.specs.declared.stable.Demotion.{Demotion}
 use Rattle.clk_demote.specs.Context.{Site, Known}
 use Rattle.clk_demote.specs.Lifts.{lifts_of}
 use Rattle.clk_trace.specs.Checks.{Visit, Check, listed}

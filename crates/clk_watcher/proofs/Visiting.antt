@@ -12,9 +12,9 @@ use Rattle.clk_words.specs.Held.{Place}
 use Rattle.clk_machine.specs.Plan.{Plan, SourcePlan, cpu_count}
 use Rattle.clk_machine.specs.Limits.{IsWithinLimits}
 use Rattle.clk_machine.specs.Time.{source_plan_at}
-use Rattle.clk_watch.specs.declared.record.SourceRecord.{SourceRecord}
-use Rattle.clk_watch.specs.Brackets.{retries_of, IsRightAttempt}
-use Rattle.clk_watch.specs.Fold.{is_good, is_lost, ends_check}
+use Rattle.clk_record.specs.declared.visit.SourceRecord.{SourceRecord}
+use Rattle.clk_record.specs.Attempts.{retries_of, IsRightAttempt}
+use Rattle.clk_record.specs.Fold.{is_good, is_lost, ends_check}
 use Rattle.clk_watch.specs.Watching.{Watching, Checks}
 use Rattle.clk_demote.specs.Context.{site_of, IsOfMachine, Keeps}
 use Rattle.clk_demote.specs.Shows.{adjust_at}

@@ -8,13 +8,13 @@ use Rattle.clk_machine.specs.Plan.{Plan, SourcePlan, cpu_count}
 use Rattle.clk_machine.specs.Time.{source_plan_at}
 use Rattle.clk_machine.specs.Limits.{IsWithinLimits}
 use Rattle.clk_latch.specs.Epoch.{Place}
-use Rattle.clk_watch.specs.declared.record.SourceRecord.{SourceRecord}
-use Rattle.clk_watch.specs.Brackets.{retries_of}
-use Rattle.clk_watch.specs.Fold.{ends_check, at_first, ratings_of, IsCurrent, AreVisits}
+use Rattle.clk_record.specs.declared.visit.SourceRecord.{SourceRecord}
+use Rattle.clk_record.specs.Attempts.{retries_of}
+use Rattle.clk_record.specs.Fold.{ends_check, at_first, ratings_of, IsCurrent, AreVisits}
 use Rattle.clk_watch.specs.Watching.{kept_of}
 use Rattle.clk_demote.specs.declared.context.WatchCtx.{WatchCtx}
-use Rattle.clk_demote.specs.declared.events.StableStamp.{StableStamp}
-use Rattle.clk_demote.specs.declared.events.Demotion.{Demotion}
+use Rattle.clk_record.specs.declared.stable.StableStamp.{StableStamp}
+use Rattle.clk_record.specs.declared.stable.Demotion.{Demotion}
 use Rattle.clk_demote.specs.Context.{Known, site_of, known_of, IsSeated, IsOfMachine, IsUsable, Keeps}
 use Rattle.clk_demote.specs.Lifts.{lifts_of}
 use Rattle.clk_demote.specs.Shows.{ShowsStableStamp, ShowsDemotion}

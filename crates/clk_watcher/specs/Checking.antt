@@ -3,11 +3,11 @@ use Rattle.std.specs.Prelude.{◌≡◌, ℕ, ◌+◌, Bool, true, is_some, List
 use Rattle.clk_base.specs.Walk.{EachFrom}
 use Rattle.clk_ticket.specs.Time.{Draws}
 use Rattle.clk_machine.specs.Plan.{cpu_count}
-use Rattle.clk_watch.specs.declared.attempt.Attempt.{Attempt}
-use Rattle.clk_watch.specs.Brackets.{IsRightAttempt}
+use Rattle.clk_record.specs.declared.attempt.Attempt.{Attempt}
+use Rattle.clk_record.specs.Attempts.{IsRightAttempt}
 use Rattle.clk_watch.specs.Draws.{DrawsEach}
-use Rattle.clk_demote.specs.declared.events.StableStamp.{StableStamp}
-use Rattle.clk_demote.specs.declared.events.Demotion.{Demotion}
+use Rattle.clk_record.specs.declared.stable.StableStamp.{StableStamp}
+use Rattle.clk_record.specs.declared.stable.Demotion.{Demotion}
 use Rattle.clk_demote.specs.Context.{Site, Known}
 use Rattle.clk_demote.specs.Lifts.{lifts_of}
 use Rattle.clk_demote.specs.Shows.{adjust_at, ShowsStableStamp, ShowsDemotion}

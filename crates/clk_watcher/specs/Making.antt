@@ -11,12 +11,13 @@ use Rattle.clk_machine.specs.Limits.{IsWithinLimits}
 use Rattle.clk_machine.specs.Records.{above_base}
 use Rattle.clk_machine.specs.Tickets.{watch_tickets}
 use Rattle.clk_local.specs.Context.{BeginsAtBase}
-use Rattle.clk_watch.specs.Brackets.{retries_of}
-use Rattle.clk_watch.specs.Watching.{checks_asked, started}
-use Rattle.clk_watch.specs.Fold.{at_first, ratings_of, IsCurrent, AreVisits}
+use Rattle.clk_record.specs.Attempts.{retries_of}
+use Rattle.clk_record.specs.ChecksAsked.{checks_asked}
+use Rattle.clk_watch.specs.Watching.{started}
+use Rattle.clk_record.specs.Fold.{at_first, ratings_of, IsCurrent, AreVisits}
 use Rattle.clk_watch.specs.Watching.{kept_of}
 use Rattle.clk_demote.specs.Context.{Site, Known, IsUnlifted}
-use Rattle.clk_demote.specs.Demotions.{offset_by}
+use Rattle.clk_record.specs.Demotions.{offset_by}
 use Rattle.clk_trace.specs.Checks.{Check, pause_of}
 use Rattle.clk_trace.specs.Watchdog.{IsPass}
 use Rattle.clk_trace.specs.declared.trace.WatchTrace.{WatchTrace}

@@ -3,10 +3,10 @@ use Rattle.std.specs.Prelude.{◌≡◌, ℕ, ◌+◌, Bool, true, not, ◌&&◌
 use Rattle.std.specs.List.{AllZip}
 use Rattle.clk_base.specs.Walk.{EachFrom}
 use Rattle.clk_words.specs.declared.opening.Start.{Start}
-use Rattle.clk_words.specs.declared.step.Step.{Step}
+use Rattle.clk_record.specs.declared.step.Step.{Step}
 use Rattle.clk_machine.specs.Plan.{Plan}
-use Rattle.clk_watch.specs.Fold.{at_first, watch_after, ratings_of, IsCurrent, AreVisits}
-use Rattle.clk_demote.specs.declared.events.Demotion.{Demotion}
+use Rattle.clk_record.specs.Fold.{at_first, watch_after, ratings_of, IsCurrent, AreVisits}
+use Rattle.clk_record.specs.declared.stable.Demotion.{Demotion}
 use Rattle.clk_demote.specs.Lifts.{lifts_of}
 use Rattle.clk_trace.specs.Checks.{Visit, Check, listed}
 use Rattle.clk_trace.specs.Watchdog.{IsPass}

@@ -2,8 +2,8 @@
 ghost use Rattle.std.specs.Prelude.{◌≡◌, ◌+◌, ◌<◌, ◌≤◌, [], ◌∷◌, ◌++◌, ◌||◌, ◌^◌, true, false, length};
 ghost use Rattle.clk_machine.specs.Plan.{cpu_count};
 ghost use Rattle.clk_machine.specs.Time.{source_plan_at};
-ghost use Rattle.clk_watch.specs.Fold.{ends_check as ends_check_of};
-ghost use Rattle.clk_watch.specs.Watching.{checks_asked};
+ghost use Rattle.clk_record.specs.Fold.{ends_check as ends_check_of};
+ghost use Rattle.clk_record.specs.ChecksAsked.{checks_asked};
 ghost use Rattle.clk_trace.specs.Checks.{pause_of};
 ghost use Rattle.clk_demote.specs.Context.{IsSeated};
 ghost use Rattle.clk_watcher.specs.Calling.{Stands, IsStable, HasRoomFor, Follows, Stamps, Demotes, MakesVisit, MakesPass, Pauses, EndsCheck};
@@ -15,7 +15,7 @@ use clk_demote::{WatchCtx, demote, stable_stamp};
 use clk_latch::Latch;
 use clk_machine::CpuCounter;
 use clk_trace::WatchTrace;
-use clk_watch::{Outcome, SourceRecord};
+use clk_record::{Outcome, SourceRecord};
 use clk_worker::Shared;
 
 /// Makes the check of this number, and gives the parts back. `stable` says whether the clock is stable, which a

@@ -1,7 +1,9 @@
 //! What the watchdog has of its own, and the context of its calls.
 ghost use Rattle.clk_watcher.specs.Calling.{HasPartsOf, IsContext};
 
-use clk_demote::{StableStamp, WatchCtx};
+use clk_record::StableStamp;
+
+use clk_demote::WatchCtx;
 use clk_latch::{Latch, LatchSeat};
 use clk_num::List;
 use clk_ticket::TimeSeat;

@@ -3,7 +3,7 @@ use Rattle.std.proofs.Common.{◌≡◌, ℕ, ℤ, ◌⊎◌, Some, None, Bool, 
 use mathlib.Core.Logic.{dite}
 use native.Mathlib.Decide.{ℕ_discrete}
 use Rattle.clk_words.specs.declared.opening.Start.{Start}
-use Rattle.clk_words.specs.declared.step.Step.{Step}
+use Rattle.clk_record.specs.declared.step.Step.{Step}
 use Rattle.clk_words.specs.Histories.{opens_at, value_after, HadValue, Follows, IsGlobalHistory}
 use Rattle.clk_words.specs.declared.view.View.{View}
 use Rattle.clk_words.specs.Told.{FindsOffset}

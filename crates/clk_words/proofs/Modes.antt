@@ -4,7 +4,7 @@ use Rattle.std.proofs.lemmas.List.Elements.{All-nil, All-cons, All-weaker}
 use mathlib.Core.Option.{some}
 use lib.ListN.{get_elem?}
 use Rattle.clk_num.specs.Wrapping.{IsBitsOf}
-use Rattle.clk_words.specs.declared.opening.Mode.{Mode}
+use Rattle.clk_record.specs.declared.mode.Mode.{Mode}
 use Rattle.clk_words.specs.declared.opening.Start.{Start}
 use Rattle.clk_words.specs.declared.view.View.{View}
 use Rattle.clk_words.specs.declared.view.ModeView.{ModeView}

@@ -9,7 +9,7 @@ use Rattle.atomic_table.specs.Table.{opening}
 use Rattle.clk_num.specs.Wrapping.{IsBitsOf}
 use Rattle.clk_words.specs.declared.opening.Opening.{Opening}
 use Rattle.clk_words.specs.declared.opening.Start.{Start}
-use Rattle.clk_words.specs.declared.step.Step.{Step}
+use Rattle.clk_record.specs.declared.step.Step.{Step}
 use Rattle.clk_words.specs.declared.view.View.{View}
 use Rattle.clk_words.specs.declared.view.Part.{Part}
 use Rattle.clk_words.specs.Fronts.{Begins}

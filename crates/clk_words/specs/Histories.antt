@@ -2,13 +2,13 @@
 use Rattle.std.specs.Prelude.{◌≡◌, ℕ, ℤ, List, [], ◌∷◌, ◌++◌, filter, nat_eq, if◌then◌else◌, Bool, true, false, ◌&&◌, ◌||◌, ◌<◌, All, IsTrue}
 use Rattle.clk_base.specs.Chains.{IsChainBy}
 use Rattle.clk_num.specs.Wrapping.{raise}
-use Rattle.clk_words.specs.declared.opening.Mode.TheVariants.{Stable}
+use Rattle.clk_record.specs.declared.mode.Mode.TheVariants.{Stable}
 use Rattle.clk_words.specs.declared.opening.Start.{Start}
-use Rattle.clk_words.specs.declared.step.Step.{Step}
-use Rattle.clk_words.specs.declared.step.Why.{Why}
-use Rattle.clk_words.specs.declared.step.Why.TheVariants.{Raise, Couple, Lift}
+use Rattle.clk_record.specs.declared.step.Step.{Step}
+use Rattle.clk_record.specs.declared.step.Why.{Why}
+use Rattle.clk_record.specs.declared.step.Why.TheVariants.{Raise, Couple, Lift}
 use Rattle.clk_words.specs.Bounds.{opens_of, IsClock}
-use Rattle.clk_words.specs.Targets.{target}
+use Rattle.clk_record.specs.Targets.{target}
 
 -- what each clock word begins with
 abbrev pub opens_at : Start → ℤ

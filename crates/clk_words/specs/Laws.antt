@@ -1,9 +1,9 @@
 -- Laws of histories that functions of this crate carry.
 use Rattle.std.specs.Prelude.{◌≡◌, ℕ, ◌<◌, ℤ, ◌⊎◌, true, false, List, ◌∷◌, ◌++◌}
 use Rattle.clk_num.specs.Wrapping.{IsNotBelow}
-use Rattle.clk_words.specs.declared.opening.Mode.TheVariants.{Stable}
+use Rattle.clk_record.specs.declared.mode.Mode.TheVariants.{Stable}
 use Rattle.clk_words.specs.declared.opening.Start.{Start}
-use Rattle.clk_words.specs.declared.step.Step.{Step}
+use Rattle.clk_record.specs.declared.step.Step.{Step}
 use Rattle.clk_words.specs.declared.view.View.{View}
 use Rattle.clk_words.specs.Told.{FindsOffset}
 use Rattle.clk_words.specs.Calls.{KeepsOffset}

@@ -1,5 +1,5 @@
 pub mod Kinds
-pub mod Targets
+pub use Rattle.clk_record.specs.Targets
 pub mod Fronts
 pub mod Histories
 pub mod Bounds
@@ -15,4 +15,4 @@ pub mod WordSeats
 pub mod FirstWords
 pub mod Calls
 pub mod Laws
-pub mod LowerWord
+pub use Rattle.clk_record.specs.LowerWord

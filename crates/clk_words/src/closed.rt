@@ -3,7 +3,7 @@ ghost use Rattle.std.specs.Prelude.{◌≡◌, ◌<◌};
 ghost use Rattle.clk_words.specs.Histories.{opens_at, value_after};
 
 use crate::heights::value_at;
-use crate::step::Step;
+use clk_record::Step;
 use crate::view::View;
 use std::alloc::Global;
 use std::marker::Model;

@@ -2,7 +2,7 @@
 //! the mode.
 ghost use Rattle.std.specs.Prelude.{◌≡◌, ◌+◌, ◌<◌};
 ghost use Rattle.clk_num.specs.Wrapping.{raise};
-ghost use Rattle.clk_words.specs.declared.step.Why.TheVariants.{Lift};
+ghost use Rattle.clk_record.specs.declared.step.Why.TheVariants.{Lift};
 ghost use Rattle.clk_words.specs.Histories.{opens_at};
 ghost use Rattle.clk_words.specs.Bounds.{IsGtod, IsRaw, IsOffset, IsLiftValue};
 ghost use Rattle.clk_words.specs.Parts.{gtod_of, raw_of};
@@ -14,7 +14,7 @@ ghost use Rattle.clk_words.specs.Calls.{step_of};
 use crate::heights::{value_at, word_at};
 use crate::rule::{Lifting, ModeStore, OffsetStore, Opens, PairStore};
 use crate::seat::Seat;
-use crate::step::{Step, Why};
+use clk_record::{Step, Why};
 use crate::words::Words;
 use clk_num::{bits_of, raise};
 use std::marker::Brand;

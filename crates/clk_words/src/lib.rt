@@ -47,8 +47,9 @@ pub use kind::SeatKind;
 pub use laws::{
     each_follows, held_was_put, lifted_before, offset_stays, steps_are_chains, words_rise,
 };
-pub use opening::{Mode, Opening, Start};
+pub use clk_record::{Mode, Step, Why};
+pub use opening::{Opening, Start};
 pub use seat::Seat;
-pub use step::{Put, Step, Why};
+pub use step::Put;
 pub use view::{Load, ModeView, Name, PairView, Part, View};
 pub use words::Words;

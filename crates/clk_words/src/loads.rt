@@ -7,7 +7,7 @@ ghost use Rattle.clk_words.specs.Held.{place_of};
 ghost use Rattle.clk_words.specs.Told.{Loads, FindsGtod, FindsRaw, FindsMode, FindsOffset};
 
 use crate::heights::value_at;
-use crate::opening::Mode;
+use clk_record::Mode;
 use crate::rule::{ClockLoad, GtodLoad, ModeLoad, OffsetLoad, RawLoad};
 use crate::seat::Seat;
 use crate::words::Words;

@@ -1,12 +1,5 @@
 //! What the words begin with.
-/// Whether one clock serves all CPUs, or each CPU has a word of its own: what Linux keeps in `__sched_clock_stable`.
-#[derive(Clone, Copy, PartialEq, Eq, Debug)]
-pub enum Mode {
-    /// The raw clock is trusted: a reading is the raw clock and an offset.
-    Stable,
-    /// Each CPU's word is raised by its readings.
-    PerCpu,
-}
+use clk_record::Mode;
 
 /// What the words begin with, in ns. Each clock word begins at `tick_gtod + offset`, which wraps. The names are those
 /// of Linux's `struct sched_clock_data`; `offset` is its `__gtod_offset`.

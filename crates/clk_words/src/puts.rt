@@ -1,7 +1,7 @@
 //! The exchange by which a clock word is raised.
 ghost use Rattle.std.specs.Prelude.{◌≡◌, ◌<◌};
 ghost use Rattle.clk_num.specs.Wrapping.{raise};
-ghost use Rattle.clk_words.specs.Targets.{target};
+ghost use Rattle.clk_record.specs.Targets.{target};
 ghost use Rattle.clk_words.specs.Knowing.{HasFoundPerCpu, HasLoaded, IsTrusted};
 ghost use Rattle.clk_words.specs.Told.{Makes};
 ghost use Rattle.clk_words.specs.Held.{place_of};
@@ -10,7 +10,8 @@ ghost use Rattle.clk_words.specs.Calls.{OnDone, OnLost, Loses, step_of};
 use crate::heights::{value_at, word_at};
 use crate::rule::Exchange;
 use crate::seat::Seat;
-use crate::step::{Put, Step, Why};
+use clk_record::{Step, Why};
+use crate::step::Put;
 use crate::view::Name;
 use crate::words::Words;
 

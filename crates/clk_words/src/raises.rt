@@ -1,7 +1,7 @@
 //! The step by which a clock word is raised.
 ghost use Rattle.std.specs.Prelude.{◌≡◌, ◌<◌};
 ghost use Rattle.clk_num.specs.Wrapping.{raise};
-ghost use Rattle.clk_words.specs.Targets.{target};
+ghost use Rattle.clk_record.specs.Targets.{target};
 ghost use Rattle.clk_words.specs.Knowing.{HasFoundPerCpu, IsTrusted};
 ghost use Rattle.clk_words.specs.Told.{Raises};
 ghost use Rattle.clk_words.specs.Held.{place_of};
@@ -10,7 +10,7 @@ ghost use Rattle.clk_words.specs.Calls.{step_of};
 use crate::heights::{value_at, word_at};
 use crate::rule::{Asked, Greatest};
 use crate::seat::Seat;
-use crate::step::{Step, Why};
+use clk_record::{Step, Why};
 use crate::words::Words;
 use clk_num::{above, raise, target_local};
 use std::marker::Brand;

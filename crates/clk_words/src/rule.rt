@@ -1,7 +1,7 @@
 //! The rule over the words and all views, and what each step tells.
 use crate::kind::SeatKind;
 use crate::opening::Start;
-use crate::step::Step;
+use clk_record::Step;
 use crate::view::View;
 use atomic_table::{Join, Play, Split, TableRule};
 use std::marker::{Brand, PhantomData};
@@ -38,7 +38,7 @@ impl Play<Step, View> for Exchange {
 // What a raise is asked for. Its caller picks it, since a step is told numbers alone.
 pub(crate) trait Asked {
     ghost use Rattle.std.specs.Prelude.{ℕ};
-    ghost use Rattle.clk_words.specs.declared.step.Why.{Why};
+    ghost use Rattle.clk_record.specs.declared.step.Why.{Why};
 
     ghost call: { ℕ };
 
@@ -47,7 +47,7 @@ pub(crate) trait Asked {
 
 impl Asked for Brand {
     ghost use Rattle.std.specs.Prelude.{pos};
-    ghost use Rattle.clk_words.specs.declared.step.Why.TheVariants.{Lift};
+    ghost use Rattle.clk_record.specs.declared.step.Why.TheVariants.{Lift};
 
     ghost call = { 0 };
 

@@ -3,7 +3,7 @@ ghost use Rattle.std.specs.Prelude.{◌≡◌, ◌<◌};
 ghost use Rattle.clk_words.specs.Kinds.{cpu_of};
 
 use crate::kind::SeatKind;
-use crate::step::Step;
+use clk_record::Step;
 use crate::view::View;
 use std::marker::Model;
 

@@ -1,7 +1,7 @@
 //! What a seat knows. No value of these types is made: contracts and the rule read them.
 use crate::kind::SeatKind;
-use crate::opening::{Mode, Start};
-use crate::step::Step;
+use clk_record::{Mode, Step};
+use crate::opening::Start;
 use std::collections::LinkedList;
 
 /// The word that a load was of.

@@ -9,10 +9,10 @@ ghost use Rattle.clk_words.specs.Calls.{IsComplete};
 
 use crate::closed::Closed;
 use crate::kind::SeatKind;
-use crate::opening::{Mode, Opening, Start};
+use clk_record::{Mode, Step};
+use crate::opening::{Opening, Start};
 use crate::rule::OneHistory;
 use crate::seat::Seat;
-use crate::step::Step;
 use crate::view::View;
 use atomic_table::Table;
 use clk_num::{bits_of, word_of};

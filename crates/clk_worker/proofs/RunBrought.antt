@@ -9,12 +9,12 @@ use Rattle.std.proofs.lemmas.List.Elements.{All-nil, All-cons, All-append, All-c
 use Rattle.clk_num.specs.Wrapping.{above, IsAbove}
 use Rattle.clk_num.proofs.Heights.{above_same, raise_is}
 use Rattle.clk_words.specs.declared.opening.Start.{Start}
-use Rattle.clk_words.specs.declared.step.Step.{Step}
-use Rattle.clk_words.specs.declared.step.Why.{Why}
-use Rattle.clk_words.specs.declared.step.Why.TheVariants.{Raise, Couple, Lift}
+use Rattle.clk_record.specs.declared.step.Step.{Step}
+use Rattle.clk_record.specs.declared.step.Why.{Why}
+use Rattle.clk_record.specs.declared.step.Why.TheVariants.{Raise, Couple, Lift}
 use Rattle.clk_words.specs.Histories.{opens_at, steps_on, HadValue, NamesHeld, Follows, AllFollow, IsGlobalHistory}
 use Rattle.clk_words.specs.Laws.{WasPut}
-use Rattle.clk_words.specs.Targets.{target}
+use Rattle.clk_record.specs.Targets.{target}
 use Rattle.clk_words.proofs.Holding.{held_put}
 use Rattle.clk_words.proofs.Replay.{had_here}
 use Rattle.clk_trace.specs.LegalHistory.{is_coupling}

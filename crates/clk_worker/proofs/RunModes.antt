@@ -5,12 +5,12 @@ use Rattle.std.specs.List.{All}
 use Rattle.std.proofs.lemmas.List.Elements.{All-nil, All-cons}
 use Rattle.clk_base.specs.Walk.{Along}
 use Rattle.clk_num.specs.Wrapping.{wrap, IsNotBelow}
-use Rattle.clk_words.specs.declared.opening.Mode.{Mode}
-use Rattle.clk_words.specs.declared.opening.Mode.TheVariants.{Stable as StableMode, PerCpu as PerCpuMode}
+use Rattle.clk_record.specs.declared.mode.Mode.{Mode}
+use Rattle.clk_record.specs.declared.mode.Mode.TheVariants.{Stable as StableMode, PerCpu as PerCpuMode}
 use Rattle.clk_words.specs.declared.opening.Start.{Start}
-use Rattle.clk_words.specs.declared.step.Step.{Step}
+use Rattle.clk_record.specs.declared.step.Step.{Step}
 use Rattle.clk_words.specs.declared.view.View.{View}
-use Rattle.clk_words.specs.LowerWord.{lower_value}
+use Rattle.clk_record.specs.LowerWord.{lower_value}
 use Rattle.clk_words.specs.Views.{is_percpu, first_view}
 use Rattle.clk_local.specs.Context.{Site, Known}
 use Rattle.clk_trace.specs.Couples.{CouplesLower}

@@ -4,13 +4,13 @@ use Rattle.std.proofs.Common.{◌≡◌, ℕ, ◌+◌, ◌<◌, ℤ, Bool, true,
 use Rattle.std.specs.List.{All}
 use Rattle.std.proofs.lemmas.List.Elements.{All-nil, All-cons, All-head, All-tail}
 use Rattle.clk_words.specs.declared.opening.Start.{Start}
-use Rattle.clk_words.specs.declared.step.Step.{Step}
-use Rattle.clk_words.specs.declared.step.Why.{Why}
-use Rattle.clk_words.specs.declared.step.Why.TheVariants.{Raise, Lift}
-use Rattle.clk_words.specs.declared.step.Why.TheVariants as why
+use Rattle.clk_record.specs.declared.step.Step.{Step}
+use Rattle.clk_record.specs.declared.step.Why.{Why}
+use Rattle.clk_record.specs.declared.step.Why.TheVariants.{Raise, Lift}
+use Rattle.clk_record.specs.declared.step.Why.TheVariants as why
 use Rattle.clk_words.specs.Fronts.{Begins}
 use Rattle.clk_words.specs.Histories.{NamesHeld}
-use Rattle.clk_words.specs.LowerWord.{is_lower, lower_word}
+use Rattle.clk_record.specs.LowerWord.{is_lower, lower_word}
 use Rattle.clk_words.proofs.Fronts.{begins_through}
 use Rattle.clk_words.proofs.Replay.{had_later}
 use Rattle.clk_local.specs.Context.{Site, Known}

@@ -10,7 +10,7 @@ use native.Mathlib.Decide.{ℕ_discrete}
 use Rattle.clk_num.specs.Wrapping.{above, IsNotBelow}
 use Rattle.clk_num.proofs.Heights.{above_is, above_same, not_below_after}
 use Rattle.clk_words.specs.declared.opening.Start.{Start}
-use Rattle.clk_words.specs.declared.step.Step.{Step}
+use Rattle.clk_record.specs.declared.step.Step.{Step}
 use Rattle.clk_words.specs.declared.view.View.{View}
 use Rattle.clk_words.specs.Bounds.{IsClock}
 use Rattle.clk_words.specs.Fronts.{Begins}

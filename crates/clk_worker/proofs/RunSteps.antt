@@ -5,13 +5,13 @@ use Rattle.std.specs.List.{All}
 use Rattle.std.proofs.lemmas.List.Elements.{All-nil, All-cons}
 use Rattle.clk_num.specs.Wrapping.{raise}
 use Rattle.clk_words.specs.declared.opening.Start.{Start}
-use Rattle.clk_words.specs.declared.step.Step.{Step}
-use Rattle.clk_words.specs.declared.step.Why.{Why}
-use Rattle.clk_words.specs.declared.step.Why.TheVariants.{Raise}
-use Rattle.clk_words.specs.declared.step.Why.TheVariants as why
+use Rattle.clk_record.specs.declared.step.Step.{Step}
+use Rattle.clk_record.specs.declared.step.Why.{Why}
+use Rattle.clk_record.specs.declared.step.Why.TheVariants.{Raise}
+use Rattle.clk_record.specs.declared.step.Why.TheVariants as why
 use Rattle.clk_words.specs.declared.view.View.{View}
-use Rattle.clk_words.specs.LowerWord.{is_lower}
-use Rattle.clk_words.specs.Targets.{target}
+use Rattle.clk_record.specs.LowerWord.{is_lower}
+use Rattle.clk_record.specs.Targets.{target}
 use Rattle.clk_machine.specs.declared.reading.RawReading.{RawReading}
 use Rattle.clk_local.specs.Context.{Site, Known}
 use Rattle.clk_remote.specs.Coupling.{coupling, higher_value}

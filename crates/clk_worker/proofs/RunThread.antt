@@ -3,11 +3,11 @@
 use Rattle.std.proofs.Common.{◌≡◌, ℕ, ◌+◌, ◌<◌, ℤ, true, false, cond, List, [], ◌∷◌, ◌++◌, map, length, Some, None, refl, ap, ◌∙◌, arith}
 use Rattle.std.specs.List.{All, flat_map}
 use Rattle.clk_base.specs.Walk.{Along}
-use Rattle.clk_words.specs.declared.opening.Mode.{Mode}
-use Rattle.clk_words.specs.declared.opening.Mode.TheVariants.{Stable, PerCpu}
+use Rattle.clk_record.specs.declared.mode.Mode.{Mode}
+use Rattle.clk_record.specs.declared.mode.Mode.TheVariants.{Stable, PerCpu}
 use Rattle.clk_words.specs.declared.opening.Start.{Start}
 use Rattle.clk_words.specs.declared.kind.SeatKind.TheVariants.{Owner}
-use Rattle.clk_words.specs.declared.step.Step.{Step}
+use Rattle.clk_record.specs.declared.step.Step.{Step}
 use Rattle.clk_words.specs.declared.view.Part.{Part}
 use Rattle.clk_words.specs.Fronts.{Begins}
 use Rattle.clk_words.specs.Histories.{opens_at, IsGlobalHistory}

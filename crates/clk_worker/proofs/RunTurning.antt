@@ -3,13 +3,13 @@
 -- event is per-CPU.
 use Rattle.std.proofs.Common.{◌≡◌, ℕ, ◌+◌, ◌<◌, ◌==◌, ℤ, Bool, true, false, ◌||◌, ◌&&◌, inl, inr, List, [], ◌∷◌, ◌++◌, Contains, MatchBool, nat_eq, refl, ap, ◌∙◌, sym, subst, arith, append_assoc}
 use Rattle.std.proofs.lemmas.List.Elements.{Contains-append_left, Contains-append_right}
-use Rattle.clk_words.specs.declared.opening.Mode.{Mode}
-use Rattle.clk_words.specs.declared.opening.Mode.TheVariants.{Stable as StableMode, PerCpu as PerCpuMode}
+use Rattle.clk_record.specs.declared.mode.Mode.{Mode}
+use Rattle.clk_record.specs.declared.mode.Mode.TheVariants.{Stable as StableMode, PerCpu as PerCpuMode}
 use Rattle.clk_words.specs.declared.opening.Start.{Start}
-use Rattle.clk_words.specs.declared.step.Step.{Step}
-use Rattle.clk_words.specs.declared.step.Why.{Why}
-use Rattle.clk_words.specs.declared.step.Why.TheVariants.{Raise, Lift}
-use Rattle.clk_words.specs.declared.step.Why.TheVariants as why
+use Rattle.clk_record.specs.declared.step.Step.{Step}
+use Rattle.clk_record.specs.declared.step.Why.{Why}
+use Rattle.clk_record.specs.declared.step.Why.TheVariants.{Raise, Lift}
+use Rattle.clk_record.specs.declared.step.Why.TheVariants as why
 use Rattle.clk_words.specs.Fronts.{Begins}
 use Rattle.clk_words.specs.Histories.{is_lift, has_lift, AllLifted, IsInOrder, IsGlobalHistory}
 use Rattle.clk_words.specs.Views.{first_view}

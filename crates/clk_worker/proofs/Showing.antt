@@ -4,11 +4,11 @@ use Rattle.std.proofs.lemmas.List.{map-append}
 use Rattle.clk_ticket.specs.Time.{Time}
 use Rattle.clk_machine.specs.declared.reading.RawReading.{RawReading}
 use Rattle.clk_latch.specs.Epoch.{Epoch}
-use Rattle.clk_words.specs.declared.opening.Mode.{Mode}
-use Rattle.clk_words.specs.declared.opening.Mode.TheVariants.{Stable as StableMode, PerCpu as PerCpuMode}
+use Rattle.clk_record.specs.declared.mode.Mode.{Mode}
+use Rattle.clk_record.specs.declared.mode.Mode.TheVariants.{Stable as StableMode, PerCpu as PerCpuMode}
 use Rattle.clk_words.specs.declared.opening.Start.{Start}
-use Rattle.clk_words.specs.declared.step.Step.{Step}
-use Rattle.clk_words.specs.declared.step.Why.{Why}
+use Rattle.clk_record.specs.declared.step.Step.{Step}
+use Rattle.clk_record.specs.declared.step.Why.{Why}
 use Rattle.clk_words.specs.declared.view.View.{View}
 use Rattle.clk_words.specs.Histories.{is_lift}
 use Rattle.clk_words.specs.Views.{is_percpu}

@@ -2,10 +2,10 @@
 use Rattle.std.specs.Prelude.{◌≡◌, ◌≢◌, ℕ, ◌<◌, true, false, ℤ, List, [], ◌∷◌, ◌++◌}
 use Rattle.clk_base.specs.Blocks.{Rises}
 use Rattle.clk_ticket.specs.Time.{Draws, share_of}
-use Rattle.clk_words.specs.declared.step.Step.{Step}
-use Rattle.clk_words.specs.declared.step.Why.{Why}
-use Rattle.clk_words.specs.declared.step.Why.TheVariants.{Raise}
-use Rattle.clk_words.specs.declared.step.Why.TheVariants as why
+use Rattle.clk_record.specs.declared.step.Step.{Step}
+use Rattle.clk_record.specs.declared.step.Why.{Why}
+use Rattle.clk_record.specs.declared.step.Why.TheVariants.{Raise}
+use Rattle.clk_record.specs.declared.step.Why.TheVariants as why
 use Rattle.clk_words.specs.Histories.{is_lift}
 use Rattle.clk_machine.specs.Records.{AreRecords}
 use Rattle.clk_machine.specs.declared.reading.RawReading.{RawReading}

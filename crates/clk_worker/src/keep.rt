@@ -9,7 +9,7 @@ use clk_machine::RawReading;
 use clk_num::List;
 use clk_remote::RemoteEvent;
 use clk_trace::{Event, EventKind};
-use clk_words::{Step, Why};
+use clk_record::{Step, Why};
 
 /// Keeps one event.
 #[inline(always)]

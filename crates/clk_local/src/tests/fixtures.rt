@@ -13,7 +13,7 @@ ghost use Rattle.clk_words.specs.Histories.{opens_at};
 ghost use Rattle.clk_words.specs.Kinds.{cpu_of};
 ghost use Rattle.clk_words.specs.Knowing.{HasFoundPerCpu, IsReadingKind, MaySplit, MayDemote};
 ghost use Rattle.clk_words.specs.Views.{is_percpu, first_view, giver_view, given_view};
-ghost use Rattle.clk_words.specs.declared.opening.Mode.TheVariants.{PerCpu};
+ghost use Rattle.clk_record.specs.declared.mode.Mode.TheVariants.{PerCpu};
 ghost use Rattle.clk_local.specs.Context.{BeginsAtBase, IsUsable, MayStamp};
 
 use crate::Ctx;
@@ -349,7 +349,7 @@ pub fn end(shared: &Shared, first: &mut Own) -> (i64, u64)
 
 // What threads do at a stand that starts in some mode, and what they see.
 pub trait Row {
-    ghost use Rattle.clk_words.specs.declared.opening.Mode.{Mode};
+    ghost use Rattle.clk_record.specs.declared.mode.Mode.{Mode};
 
     type Seen: Copy;
 

@@ -55,7 +55,7 @@ fn late_row() -> (Reading, TickEvent, (RawReading, Step)) {
 struct Late;
 
 impl Row for Late {
-    ghost use Rattle.clk_words.specs.declared.opening.Mode.TheVariants.{PerCpu};
+    ghost use Rattle.clk_record.specs.declared.mode.Mode.TheVariants.{PerCpu};
 
     type Seen = (Reading, TickEvent, (RawReading, Step));
 
@@ -98,7 +98,7 @@ fn idle_row() -> IdleEvent {
 struct Idle;
 
 impl Row for Idle {
-    ghost use Rattle.clk_words.specs.declared.opening.Mode.TheVariants.{PerCpu};
+    ghost use Rattle.clk_record.specs.declared.mode.Mode.TheVariants.{PerCpu};
 
     type Seen = IdleEvent;
 
@@ -162,7 +162,7 @@ fn demoted_row() -> (Reading, TickEvent) {
 struct Demoted;
 
 impl Row for Demoted {
-    ghost use Rattle.clk_words.specs.declared.opening.Mode.TheVariants.{Stable};
+    ghost use Rattle.clk_record.specs.declared.mode.Mode.TheVariants.{Stable};
 
     type Seen = ((Reading, TickEvent), (Reading, TickEvent));
 
@@ -260,7 +260,7 @@ fn half_way_row() -> ((RawReading, i64), TickEvent, (i64, Step)) {
 struct HalfWay;
 
 impl Row for HalfWay {
-    ghost use Rattle.clk_words.specs.declared.opening.Mode.TheVariants.{PerCpu};
+    ghost use Rattle.clk_record.specs.declared.mode.Mode.TheVariants.{PerCpu};
 
     type Seen = ((RawReading, i64), TickEvent, (i64, Step));
 

@@ -1,6 +1,6 @@
 //! An owner and a reader of one CPU, on threads of their own.
 ghost use Rattle.std.specs.Prelude.{◌≡◌, ◌+◌, ◌<◌, ◌≤◌};
-ghost use Rattle.clk_words.specs.declared.opening.Mode.TheVariants.{PerCpu};
+ghost use Rattle.clk_record.specs.declared.mode.Mode.TheVariants.{PerCpu};
 ghost use Rattle.clk_words.specs.Held.{place_of};
 ghost use Rattle.clk_words.specs.Knowing.{HasFoundPerCpu};
 ghost use Rattle.clk_words.specs.Views.{first_view};

@@ -3,7 +3,7 @@ use Rattle.std.specs.List.{All, IsDistinct}
 use Rattle.std.specs.Option.{IfSome}
 use Rattle.std.proofs.lemmas.List.Elements.{All-nil, All-weaker}
 use Rattle.clk_num.specs.Listed.{Listed}
-use Rattle.clk_words.specs.declared.step.Step.{Step}
+use Rattle.clk_record.specs.declared.step.Step.{Step}
 use Rattle.clk_trace.specs.Filling.{NamesWordsBelow, HasWordsBelow, MayFill}
 use Rattle.clk_trace.specs.Standing.{lifts_by}
 use Rattle.clk_trace.specs.WordHistory.{steps_of}

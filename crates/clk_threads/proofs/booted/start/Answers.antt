@@ -1,5 +1,5 @@
 use Rattle.std.proofs.Common.{◌≡◌, true, false, List, [], ◌∷◌, ◌++◌, refl, sym, ap, ◌∙◌, subst, rules, FitsSigned, w64, to_z-of_z}
-use Rattle.clk_demote.specs.declared.events.StableStamp.{StableStamp}
+use Rattle.clk_record.specs.declared.stable.StableStamp.{StableStamp}
 use Rattle.clk_threads.specs.Booting.{gtod_offset_of, AreStamps}
 use Rattle.clk_threads.proofs.Stamping.{stable_offset_is, Drew, one_stamp, one_drawn, with_offset, two_stamps, two_drawn}
 use Rattle.clk_threads.proofs.booted.start.Goals as goal

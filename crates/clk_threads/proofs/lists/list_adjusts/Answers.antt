@@ -1,5 +1,5 @@
 use Rattle.std.proofs.Common.{◌<◌, ℤ, pos, List, [], ◌∷◌, ◌++◌, length, map, take, sym, ap, ◌∙◌, arith, rules, FitsSigned, w64, to_z-of_z}
-use Rattle.clk_adjust.specs.declared.up.CpuUp.{CpuUp}
+use Rattle.clk_record.specs.declared.up.CpuUp.{CpuUp}
 use Rattle.clk_threads.proofs.Sharing.{map_more}
 use Rattle.clk_threads.proofs.lists.list_adjusts.Goals as goal
 

@@ -3,7 +3,7 @@ use Rattle.std.specs.Prelude.{not, ◌&&◌, is_some}
 use Rattle.std.specs.List.{All}
 use Rattle.clk_machine.specs.Limits.{IsWithinLimits}
 use Rattle.clk_machine.specs.Plan.{cpu_count, threads_of}
-use Rattle.clk_demote.specs.declared.events.StableStamp.{StableStamp}
+use Rattle.clk_record.specs.declared.stable.StableStamp.{StableStamp}
 use Rattle.clk_threads.specs.Booting.{AreStamps, gtod_offset_of}
 use Rattle.clk_threads.specs.Workers.{HaveSeats, AreInSlots, HaveWatchSeats, IsWatcherOf}
 use Rattle.clk_threads.specs.Ending.{begun_by}

@@ -1,8 +1,8 @@
 use Rattle.std.proofs.Common.{◌≡◌, ◌+◌, length, refl, ◌∙◌, arith}
 use Rattle.std.proofs.lemmas.List.{length_push}
 use Rattle.std.proofs.lemmas.List.Elements.{All-push}
-use Rattle.clk_adjust.specs.declared.up.UpOutcome.TheVariants.{Untested}
-use Rattle.clk_adjust.specs.BroughtUp.{IsLeft}
+use Rattle.clk_record.specs.declared.up.UpOutcome.TheVariants.{Untested}
+use Rattle.clk_record.specs.BroughtUp.{IsLeft}
 use Rattle.clk_tool.proofs.Making.{each_push, no_readings, untested_up}
 use Rattle.clk_tool.proofs.make.untested.Goals as goal
 

@@ -2,8 +2,8 @@ use Rattle.std.proofs.Common.{◌≡◌, ◌+◌, ◌≤◌, length}
 use Rattle.std.specs.List.{All}
 use Rattle.clk_base.specs.Walk.{EachFrom}
 use Rattle.clk_machine.specs.Plan.{cpu_count}
-use Rattle.clk_adjust.specs.declared.up.UpOutcome.TheVariants.{Untested}
-use Rattle.clk_adjust.specs.BroughtUp.{IsLeft}
+use Rattle.clk_record.specs.declared.up.UpOutcome.TheVariants.{Untested}
+use Rattle.clk_record.specs.BroughtUp.{IsLeft}
 use Rattle.clk_tool.proofs.make.untested.Given as goal
 
 -- the CPUs so far are left as they were, and there is room for the others

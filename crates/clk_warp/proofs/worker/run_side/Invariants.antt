@@ -1,7 +1,7 @@
 use Rattle.std.proofs.Common.{◌≡◌, ◌+◌, ◌^◌, ◌<◌, ◌≤◌, length}
 use mathlib.Core.List.{IsPrefix}
-use Rattle.clk_warp.specs.Sides.{of_side}
-use Rattle.clk_warp.specs.Falls.{is_ended}
+use Rattle.clk_record.specs.Sides.{of_side}
+use Rattle.clk_record.specs.Falls.{is_ended}
 use Rattle.clk_warp.specs.Run.{limits_at}
 use Rattle.clk_warp.specs.Working.{readings_of, IsReady}
 use Rattle.clk_warp.proofs.worker.run_side.Given as goal

@@ -1,8 +1,8 @@
 use Rattle.std.proofs.Common.{◌<◌, length, get_or, refl, false, None, arith}
 use Rattle.std.proofs.lemmas.List.{get_or_default}
 use Rattle.clk_machine.proofs.Summing.{map_more}
-use Rattle.clk_watch.specs.declared.watched.Watched.{Watched}
-use Rattle.clk_watch.specs.Fold.{unmarked}
+use Rattle.clk_record.specs.declared.watched.Watched.{Watched}
+use Rattle.clk_record.specs.Fold.{unmarked}
 use Rattle.clk_watch.proofs.settle.unmark_all.Goals as goal
 
 abbrev nothing : Watched

@@ -1,5 +1,5 @@
 use Rattle.std.proofs.Common.{◌≡◌, ◌++◌, map, take, drop}
-use Rattle.clk_watch.specs.Fold.{unmarked}
+use Rattle.clk_record.specs.Fold.{unmarked}
 use Rattle.clk_watch.proofs.settle.unmark_all.Given as goal
 
 abbrev pub invariant-loop-watched : goal.invariant-loop-watched

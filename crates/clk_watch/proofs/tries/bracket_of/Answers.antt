@@ -1,7 +1,7 @@
 use Rattle.std.proofs.Common.{Option, sym, ap, ◌∙◌, arith}
 use Rattle.std.specs.Prelude.{unwrap_or}
-use Rattle.clk_watch.specs.declared.attempt.Bracket.{Bracket}
-use Rattle.clk_watch.specs.declared.attempt.Bracket.TheVariants.{Slow}
+use Rattle.clk_record.specs.declared.attempt.Bracket.{Bracket}
+use Rattle.clk_record.specs.declared.attempt.Bracket.TheVariants.{Slow}
 use Rattle.clk_watch.proofs.Trial.{more_undecided, bracket_ends}
 use Rattle.clk_watch.proofs.tries.bracket_of.Goals as goal
 

@@ -1,5 +1,5 @@
 use Rattle.std.proofs.Common.{◌≡◌, ◌+◌, map, take, length}
-use Rattle.clk_watch.specs.Fold.{source_at_first}
+use Rattle.clk_record.specs.Fold.{source_at_first}
 use Rattle.clk_watch.proofs.visit.first_watched.Given as goal
 
 abbrev pub invariant-loop-s : goal.invariant-loop-s

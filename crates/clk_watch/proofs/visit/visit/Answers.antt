@@ -2,9 +2,9 @@ use Rattle.std.proofs.Common.{◌≡◌, ◌-◌, ◌<◌, List, length, false, 
 use Rattle.std.specs.List.{All}
 use Rattle.std.proofs.lemmas.List.{get_or_read}
 use Rattle.clk_machine.specs.Plan.{SourcePlan}
-use Rattle.clk_watch.specs.declared.watched.Pair.{Pair}
-use Rattle.clk_watch.specs.declared.watched.Watched.{Watched}
-use Rattle.clk_watch.specs.Fold.{left_by, watched_at}
+use Rattle.clk_record.specs.declared.watched.Pair.{Pair}
+use Rattle.clk_record.specs.declared.watched.Watched.{Watched}
+use Rattle.clk_record.specs.Fold.{left_by, watched_at}
 use Rattle.clk_watch.specs.Small.{IsSmallWatched}
 use Rattle.clk_watch.specs.Visiting.{HasFlags, pair_in}
 use Rattle.clk_watch.proofs.Calling.{visits}

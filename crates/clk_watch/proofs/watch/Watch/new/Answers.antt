@@ -5,7 +5,7 @@ use Rattle.std.proofs.lemmas.List.Elements.{All-map}
 use Rattle.clk_machine.specs.declared.parts.ReferencePart.{ReferencePart}
 use Rattle.clk_machine.specs.Plan.{Plan, count_of}
 use Rattle.clk_machine.specs.Limits.{IsWithinLimits}
-use Rattle.clk_watch.specs.Fold.{source_at_first}
+use Rattle.clk_record.specs.Fold.{source_at_first}
 use Rattle.clk_watch.specs.Small.{IsSmallWatched}
 use Rattle.clk_watch.proofs.watch.Watch.new.Goals as goal
 

@@ -1,5 +1,5 @@
 use Rattle.std.proofs.Common.{sym, ap, subst, refl}
-use Rattle.clk_words.specs.declared.opening.Mode.{Mode}
+use Rattle.clk_record.specs.declared.mode.Mode.{Mode}
 use Rattle.clk_words.specs.declared.view.View.{View}
 use Rattle.clk_words.specs.Held.{Held}
 use Rattle.clk_words.specs.Views.{mode_of}

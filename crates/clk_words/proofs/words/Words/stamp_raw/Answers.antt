@@ -1,6 +1,6 @@
 use Rattle.std.proofs.Common.{sym, ap, ◌∙◌, subst, rules, to_z-of_z, FitsSigned, w64}
 use Rattle.atomic_table.specs.Table.{Me}
-use Rattle.clk_words.specs.declared.step.Step.{Step}
+use Rattle.clk_record.specs.declared.step.Step.{Step}
 use Rattle.clk_words.specs.declared.view.View.{View}
 use Rattle.clk_words.specs.Kinds.{cpu_of}
 use Rattle.clk_words.specs.Histories.{opens_at}

@@ -1,8 +1,8 @@
 -- A finished warp run.
 use Rattle.std.specs.Prelude.{◌≡◌, true, length, []}
-use Rattle.clk_warp.specs.declared.side.Side.TheVariants.{Source, Target}
-use Rattle.clk_warp.specs.declared.side.WarpRun.{WarpRun}
-use Rattle.clk_warp.specs.Falls.{Limits, AreInTurn, is_ended, falls, greatest, changes, greatest_seen}
+use Rattle.clk_record.specs.declared.warp.Side.TheVariants.{Source, Target}
+use Rattle.clk_record.specs.declared.warp.WarpRun.{WarpRun}
+use Rattle.clk_record.specs.Falls.{Limits, AreInTurn, is_ended, falls, greatest, changes, greatest_seen}
 
 -- each side has its start reading, its turns and its last one and nothing after it, and the numbers count the falls
 pub record IsWarpRun (l : Limits) (run : WarpRun) : Type 0 where

@@ -1,8 +1,8 @@
 -- The offset of a stable stamp, and the opening and the drift of a demotion. All are clock values, which wrap.
 use Rattle.std.specs.Prelude.{◌≡◌, ℤ, ◌+ℤ◌, ◌-ℤ◌}
 use Rattle.clk_num.specs.Wrapping.{wrap, above}
-use Rattle.clk_demote.specs.declared.events.StableStamp.{StableStamp}
-use Rattle.clk_demote.specs.declared.events.Demotion.{Demotion}
+use Rattle.clk_record.specs.declared.stable.StableStamp.{StableStamp}
+use Rattle.clk_record.specs.declared.stable.Demotion.{Demotion}
 
 -- the stable clock at a raw value, and what takes monotonic time there
 abbrev pub stable_value : ℤ → ℤ → ℤ

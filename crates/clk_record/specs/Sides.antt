@@ -1,8 +1,8 @@
 -- The readings of each side.
 use Rattle.std.specs.Prelude.{ℕ, Bool, true, false, not, List, [], ◌∷◌, filter, fold, Option, Some, None, if◌then◌else◌}
-use Rattle.clk_warp.specs.declared.side.Side.{Side}
-use Rattle.clk_warp.specs.declared.side.Side.TheVariants.{Source, Target}
-use Rattle.clk_warp.specs.declared.side.WarpReading.{WarpReading}
+use Rattle.clk_record.specs.declared.warp.Side.{Side}
+use Rattle.clk_record.specs.declared.warp.Side.TheVariants.{Source, Target}
+use Rattle.clk_record.specs.declared.warp.WarpReading.{WarpReading}
 
 abbrev pub is_same : Side → Side → Bool
 is_same Source Source = true

@@ -1,8 +1,8 @@
 -- What comes after a warp run.
 use Rattle.std.specs.Prelude.{ℕ, ◌||◌, ℤ, pos, neg_ℤ, nat_eq, nat_lt, if◌then◌else◌}
-use Rattle.clk_warp.specs.declared.side.WarpRun.{WarpRun}
-use Rattle.clk_warp.specs.declared.outcome.Verdict.{Verdict}
-use Rattle.clk_warp.specs.declared.outcome.Verdict.TheVariants.{Passed, Again, Failed}
+use Rattle.clk_record.specs.declared.warp.WarpRun.{WarpRun}
+use Rattle.clk_record.specs.declared.verdict.Verdict.{Verdict}
+use Rattle.clk_record.specs.declared.verdict.Verdict.TheVariants.{Passed, Again, Failed}
 
 -- what the target adds to its counter: what it saw itself, or back by the greatest fall where only the source saw falls
 abbrev pub adjustment : WarpRun → ℤ

@@ -1,9 +1,9 @@
 -- A warp run as a list of readings in lock order: where each side ends, and which readings are falls.
 use Rattle.std.specs.Prelude.{◌≡◌, ℕ, ◌+◌, ◌-◌, ◌%◌, Bool, false, not, ◌&&◌, ◌||◌, List, [], ◌∷◌, ◌++◌, length, fold, max, nat_eq, nat_lt, if◌then◌else◌}
 use Rattle.std.specs.List.{list_any}
-use Rattle.clk_warp.specs.declared.side.Side.{Side}
-use Rattle.clk_warp.specs.declared.side.WarpReading.{WarpReading}
-use Rattle.clk_warp.specs.Sides.{is_same, of_side, turns_of, first_tsc, last_tsc}
+use Rattle.clk_record.specs.declared.warp.Side.{Side}
+use Rattle.clk_record.specs.declared.warp.WarpReading.{WarpReading}
+use Rattle.clk_record.specs.Sides.{is_same, of_side, turns_of, first_tsc, last_tsc}
 
 -- how many cycles a side goes on after its start, and how many turns, before it looks whether to end
 pub record Limits : Type 0 where

@@ -1,6 +1,6 @@
 //! What a bring-up leaves.
 use clk_num::List;
-use clk_warp::WarpRun;
+use crate::warp::WarpRun;
 
 /// What came of the bring-up of a CPU.
 #[derive(Clone, Copy, PartialEq, Eq, Debug)]

@@ -6,16 +6,16 @@ use Rattle.clk_base.specs.Walk.{Along, told_after, EachFrom}
 use Rattle.clk_machine.specs.declared.parts.BringUpPart.{BringUpPart}
 use Rattle.clk_machine.specs.Plan.{Plan, cpu_count}
 use Rattle.clk_machine.specs.Time.{counter_at}
-use Rattle.clk_warp.specs.declared.side.WarpRun.{WarpRun}
-use Rattle.clk_warp.specs.declared.outcome.Verdict.{Verdict}
-use Rattle.clk_warp.specs.declared.outcome.Verdict.TheVariants as verdict
-use Rattle.clk_warp.specs.Run.{limits_in, cpu_of, side_adjust}
-use Rattle.clk_warp.specs.Warps.{IsWarpRun}
-use Rattle.clk_warp.specs.Verdicts.{adjustment, verdict_of}
-use Rattle.clk_adjust.specs.declared.up.UpOutcome.{UpOutcome}
-use Rattle.clk_adjust.specs.declared.up.UpOutcome.TheVariants.{Untested, Synced, Failed, Skipped}
-use Rattle.clk_adjust.specs.declared.up.CpuUp.{CpuUp}
-use Rattle.clk_adjust.specs.declared.up.BroughtUp.{BroughtUp}
+use Rattle.clk_record.specs.declared.warp.WarpRun.{WarpRun}
+use Rattle.clk_record.specs.declared.verdict.Verdict.{Verdict}
+use Rattle.clk_record.specs.declared.verdict.Verdict.TheVariants as verdict
+use Rattle.clk_record.specs.WarpLimits.{limits_in, cpu_of, side_adjust}
+use Rattle.clk_record.specs.Warps.{IsWarpRun}
+use Rattle.clk_record.specs.Verdicts.{adjustment, verdict_of}
+use Rattle.clk_record.specs.declared.up.UpOutcome.{UpOutcome}
+use Rattle.clk_record.specs.declared.up.UpOutcome.TheVariants.{Untested, Synced, Failed, Skipped}
+use Rattle.clk_record.specs.declared.up.CpuUp.{CpuUp}
+use Rattle.clk_record.specs.declared.up.BroughtUp.{BroughtUp}
 
 -- ---- the runs of a CPU
 

@@ -5,15 +5,15 @@ use Rattle.clk_num.specs.Conversion.{convert}
 use Rattle.clk_num.specs.Masked.{masked_delta}
 use Rattle.clk_machine.specs.Plan.{Plan, SourcePlan, count_of}
 use Rattle.clk_machine.specs.Time.{source_plan_at, rate_of}
-use Rattle.clk_watch.specs.declared.attempt.Attempt.{Attempt}
-use Rattle.clk_watch.specs.declared.attempt.Bracket.{Bracket}
-use Rattle.clk_watch.specs.declared.attempt.Bracket.TheVariants.{Accepted, Skip as SkipBracket, Slow as SlowBracket}
-use Rattle.clk_watch.specs.declared.record.Outcome.{Outcome}
-use Rattle.clk_watch.specs.declared.record.Outcome.TheVariants.{Passed, Slow, Skip, First, Good, Bad}
-use Rattle.clk_watch.specs.declared.record.SourceRecord.{SourceRecord}
-use Rattle.clk_watch.specs.declared.watched.Pair.{Pair}
-use Rattle.clk_watch.specs.declared.watched.Watched.{Watched}
-use Rattle.clk_watch.specs.Brackets.{reference_ns, IsBracket}
+use Rattle.clk_record.specs.declared.attempt.Attempt.{Attempt}
+use Rattle.clk_record.specs.declared.attempt.Bracket.{Bracket}
+use Rattle.clk_record.specs.declared.attempt.Bracket.TheVariants.{Accepted, Skip as SkipBracket, Slow as SlowBracket}
+use Rattle.clk_record.specs.declared.visit.Outcome.{Outcome}
+use Rattle.clk_record.specs.declared.visit.Outcome.TheVariants.{Passed, Slow, Skip, First, Good, Bad}
+use Rattle.clk_record.specs.declared.visit.SourceRecord.{SourceRecord}
+use Rattle.clk_record.specs.declared.watched.Pair.{Pair}
+use Rattle.clk_record.specs.declared.watched.Watched.{Watched}
+use Rattle.clk_record.specs.Attempts.{reference_ns, IsBracket}
 
 -- ---- what a bracket says of a source
 
