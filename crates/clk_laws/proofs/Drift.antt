@@ -11,14 +11,14 @@ use Rattle.clk_record.specs.declared.stable.StableStamp.{StableStamp}
 use Rattle.clk_record.specs.declared.stable.Demotion.{Demotion}
 use Rattle.clk_record.specs.Demotions.{OpensLessDrift}
 use Rattle.clk_demote.proofs.Shifting.{shift_by_drift}
-use Rattle.clk_trace.specs.Checks.{Visit, listed, visits_of}
-use Rattle.clk_trace.specs.Standing.{is_stable, demotion_by, begins_stable, either_demotion}
-use Rattle.clk_trace.specs.Stamps.{Pair, boot_pair, last_pair, no_pair}
-use Rattle.clk_trace.specs.Demoted.{last_stamp, boot_stamp, HasOffset}
-use Rattle.clk_trace.specs.Watchdog.{AreCalledFor}
-use Rattle.clk_trace.specs.LawfulTrace.{IsLawful}
-use Rattle.clk_trace.specs.declared.trace.WatchTrace.{WatchTrace}
-use Rattle.clk_trace.specs.declared.trace.Trace.{Trace}
+use Rattle.clk_lawful.specs.Checks.{Visit, listed, visits_of}
+use Rattle.clk_lawful.specs.Standing.{is_stable, demotion_by, begins_stable, either_demotion}
+use Rattle.clk_lawful.specs.Stamps.{Pair, boot_pair, last_pair, no_pair}
+use Rattle.clk_lawful.specs.Demoted.{last_stamp, boot_stamp, HasOffset}
+use Rattle.clk_lawful.specs.Watchdog.{AreCalledFor}
+use Rattle.clk_lawful.specs.LawfulTrace.{IsLawful}
+use Rattle.clk_lawful.specs.declared.trace.WatchTrace.{WatchTrace}
+use Rattle.clk_lawful.specs.declared.trace.Trace.{Trace}
 use Rattle.clk_laws.specs.Demoting.{LosesTheDrift}
 
 -- ---- the stamps of the boot

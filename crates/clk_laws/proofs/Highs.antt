@@ -15,19 +15,19 @@ use Rattle.clk_num.proofs.Heights.{above_same, raise_rises}
 use Rattle.clk_record.specs.declared.step.Step.{Step}
 use Rattle.clk_record.specs.Targets.{target}
 use Rattle.clk_machine.specs.Plan.{Plan}
-use Rattle.clk_trace.specs.LawfulTrace.{IsLawful}
-use Rattle.clk_trace.specs.LegalHistory.{ReachesTarget, IsLegalHistory}
-use Rattle.clk_trace.specs.Lines.{Line, step_line}
-use Rattle.clk_trace.specs.Lines.Line.{Step as StepLine}
-use Rattle.clk_trace.specs.SeenBefore.{Seen, seen_at, shown_by_kind, stood_at, IsAboveSeen, NeverFalls}
-use Rattle.clk_trace.specs.Standing.{lifts_by}
-use Rattle.clk_trace.specs.WordHistory.{Placed, steps_of_kind, steps_from, all_steps, placed_lift, lift_steps, steps_of, placed_on, line_of, is_flat, history_cmp}
-use Rattle.clk_trace.specs.declared.event.Event.{Event}
-use Rattle.clk_trace.specs.declared.event.EventKind.{EventKind}
-use Rattle.clk_trace.specs.declared.event.EventKind.TheVariants.{Stable, Local, Couple, Stamp, Nothing, Update, Pause}
-use Rattle.clk_trace.specs.declared.trace.HistoryStep.{HistoryStep}
-use Rattle.clk_trace.specs.declared.trace.WatchTrace.{WatchTrace}
-use Rattle.clk_trace.specs.declared.trace.Trace.{Trace}
+use Rattle.clk_lawful.specs.LawfulTrace.{IsLawful}
+use Rattle.clk_lawful.specs.LegalHistory.{ReachesTarget, IsLegalHistory}
+use Rattle.clk_lawful.specs.Lines.{Line, step_line}
+use Rattle.clk_lawful.specs.Lines.Line.{Step as StepLine}
+use Rattle.clk_lawful.specs.SeenBefore.{Seen, seen_at, shown_by_kind, stood_at, IsAboveSeen, NeverFalls}
+use Rattle.clk_lawful.specs.Standing.{lifts_by}
+use Rattle.clk_lawful.specs.WordHistory.{Placed, steps_of_kind, steps_from, all_steps, placed_lift, lift_steps, steps_of, placed_on, line_of, is_flat, history_cmp}
+use Rattle.clk_lawful.specs.declared.event.Event.{Event}
+use Rattle.clk_lawful.specs.declared.event.EventKind.{EventKind}
+use Rattle.clk_lawful.specs.declared.event.EventKind.TheVariants.{Stable, Local, Couple, Stamp, Nothing, Update, Pause}
+use Rattle.clk_lawful.specs.declared.trace.HistoryStep.{HistoryStep}
+use Rattle.clk_lawful.specs.declared.trace.WatchTrace.{WatchTrace}
+use Rattle.clk_lawful.specs.declared.trace.Trace.{Trace}
 use Rattle.clk_laws.specs.Seeing.{found_by_kind}
 
 -- not below the opening

@@ -6,8 +6,8 @@ use Rattle.clk_num.specs.Wrapping.{above, IsAbove, raise}
 use Rattle.clk_num.proofs.Heights.{raise_is}
 use Rattle.clk_record.specs.declared.step.Step.{Step}
 use Rattle.clk_record.specs.declared.stable.Demotion.{Demotion}
-use Rattle.clk_trace.specs.Demoted.{IsLiftOf}
-use Rattle.clk_trace.specs.declared.trace.Trace.{Trace}
+use Rattle.clk_lawful.specs.Demoted.{IsLiftOf}
+use Rattle.clk_lawful.specs.declared.trace.Trace.{Trace}
 use Rattle.clk_laws.specs.Demoting.{KeepsHigher, HigherWordsStay}
 
 raised_to : (old value : ℤ) → IsAbove value old → raise old value ≡ value

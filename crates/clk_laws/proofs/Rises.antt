@@ -11,12 +11,12 @@ use Rattle.clk_num.proofs.Wraps.{wrapped}
 use Rattle.clk_num.specs.Listed.{Listed}
 use Rattle.clk_record.specs.declared.step.Step.{Step}
 use Rattle.clk_record.specs.LowerWord.{is_lower}
-use Rattle.clk_trace.specs.Couples.{CouplesLower}
-use Rattle.clk_trace.specs.SeenBefore.{Seen, seen_at, shown_by_kind, higher, highest, values_on, stood_at, seen_of, IsAboveSeen, NeverFalls}
-use Rattle.clk_trace.specs.Standing.{lifted_from, lifts_by}
-use Rattle.clk_trace.specs.declared.event.Event.{Event}
-use Rattle.clk_trace.specs.declared.event.EventKind.{EventKind}
-use Rattle.clk_trace.specs.declared.event.EventKind.TheVariants.{Stable, Local, Couple, Stamp, Nothing, Update, Pause}
+use Rattle.clk_lawful.specs.Couples.{CouplesLower}
+use Rattle.clk_lawful.specs.SeenBefore.{Seen, seen_at, shown_by_kind, higher, highest, values_on, stood_at, seen_of, IsAboveSeen, NeverFalls}
+use Rattle.clk_lawful.specs.Standing.{lifted_from, lifts_by}
+use Rattle.clk_lawful.specs.declared.event.Event.{Event}
+use Rattle.clk_lawful.specs.declared.event.EventKind.{EventKind}
+use Rattle.clk_lawful.specs.declared.event.EventKind.TheVariants.{Stable, Local, Couple, Stamp, Nothing, Update, Pause}
 use Rattle.clk_laws.proofs.Highs.{IsHigh, ShowsNoneBelow, none_below}
 use Rattle.clk_laws.specs.Seeing.{found_by_kind, FindsNoLess, NoWordFalls}
 

@@ -6,11 +6,11 @@ use Rattle.std.proofs.lemmas.List.Kept.{AllPairs-cons}
 use Rattle.clk_base.specs.Walk.{Along}
 use Rattle.clk_num.specs.Listed.{Listed}
 use Rattle.clk_record.specs.declared.stable.Demotion.{Demotion}
-use Rattle.clk_trace.specs.Modes.{shows_stable, shows_percpu, reads_percpu, Modes, modes_of, IsOfMode, turned_after}
-use Rattle.clk_trace.specs.Standing.{either_demotion, demotion_by}
-use Rattle.clk_trace.specs.declared.event.Event.{Event}
-use Rattle.clk_trace.specs.declared.event.EventKind.{EventKind}
-use Rattle.clk_trace.specs.declared.event.EventKind.TheVariants.{Stable, Local, Couple, Stamp, Nothing, Update, Pause}
+use Rattle.clk_lawful.specs.Modes.{shows_stable, shows_percpu, reads_percpu, Modes, modes_of, IsOfMode, turned_after}
+use Rattle.clk_lawful.specs.Standing.{either_demotion, demotion_by}
+use Rattle.clk_lawful.specs.declared.event.Event.{Event}
+use Rattle.clk_lawful.specs.declared.event.EventKind.{EventKind}
+use Rattle.clk_lawful.specs.declared.event.EventKind.TheVariants.{Stable, Local, Couple, Stamp, Nothing, Update, Pause}
 use Rattle.clk_laws.specs.Turning.{StaysPerCpu, NoStableAfterPerCpu, NoPerCpuUndemoted}
 
 -- the events of a thread, of which some that read per-CPU may have been before

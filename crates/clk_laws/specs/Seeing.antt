@@ -3,11 +3,11 @@ use Rattle.std.specs.Prelude.{◌≡◌, ℕ, List, [], ◌∷◌, All, AllPairs
 use Rattle.std.specs.List.{AllZip}
 use Rattle.clk_num.specs.Wrapping.{IsNotBelow}
 use Rattle.clk_machine.specs.Plan.{Plan}
-use Rattle.clk_trace.specs.LawfulTrace.{IsLawful}
-use Rattle.clk_trace.specs.SeenBefore.{Seen, seen_at, shown_by_kind}
-use Rattle.clk_trace.specs.declared.event.EventKind.{EventKind}
-use Rattle.clk_trace.specs.declared.event.EventKind.TheVariants.{Stable, Local, Couple, Stamp, Nothing, Update, Pause}
-use Rattle.clk_trace.specs.declared.trace.Trace.{Trace}
+use Rattle.clk_lawful.specs.LawfulTrace.{IsLawful}
+use Rattle.clk_lawful.specs.SeenBefore.{Seen, seen_at, shown_by_kind}
+use Rattle.clk_lawful.specs.declared.event.EventKind.{EventKind}
+use Rattle.clk_lawful.specs.declared.event.EventKind.TheVariants.{Stable, Local, Couple, Stamp, Nothing, Update, Pause}
+use Rattle.clk_lawful.specs.declared.trace.Trace.{Trace}
 
 -- what an event of a thread on this CPU found of the words: what a reading loaded, and what a coupling's step found
 abbrev pub found_by_kind : ℕ → EventKind → List Seen

@@ -1,11 +1,11 @@
 -- Between the stable clock and per-CPU clocks no thread goes to and fro.
 use Rattle.std.specs.Prelude.{◌≡◌, true, All, AllPairs, IsTrue, IsFalse, None}
 use Rattle.clk_machine.specs.Plan.{Plan}
-use Rattle.clk_trace.specs.LawfulTrace.{IsLawful}
-use Rattle.clk_trace.specs.Modes.{shows_stable, shows_percpu, reads_percpu}
-use Rattle.clk_trace.specs.Standing.{is_stable, demotion_of}
-use Rattle.clk_trace.specs.declared.event.EventKind.{EventKind}
-use Rattle.clk_trace.specs.declared.trace.Trace.{Trace}
+use Rattle.clk_lawful.specs.LawfulTrace.{IsLawful}
+use Rattle.clk_lawful.specs.Modes.{shows_stable, shows_percpu, reads_percpu}
+use Rattle.clk_lawful.specs.Standing.{is_stable, demotion_of}
+use Rattle.clk_lawful.specs.declared.event.EventKind.{EventKind}
+use Rattle.clk_lawful.specs.declared.trace.Trace.{Trace}
 
 -- after a per-CPU reading the other event does not show a stable clock
 abbrev pub StaysPerCpu : EventKind → EventKind → Type 0

@@ -8,7 +8,7 @@ use Rattle.clk_machine.specs.declared.script.Word.{Word}
 use Rattle.clk_machine.specs.declared.script.Word.TheVariants.{Local}
 use Rattle.clk_machine.specs.Tickets.{tickets_of}
 use Rattle.clk_machine.specs.Limits.{is_update}
-use Rattle.clk_trace.specs.Counting.{steps_of_word}
+use Rattle.clk_lawful.specs.Counting.{steps_of_word}
 use Rattle.clk_make.specs.Made.{made_cpus, other_cpu, remote, kinds, cpu_word, reader_word}
 use Rattle.clk_make.proofs.Lists.{picked_map, sum_by-map, sum_by-same}
 

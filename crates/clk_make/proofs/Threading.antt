@@ -9,7 +9,7 @@ use Rattle.clk_machine.specs.declared.script.Word.{Word}
 use Rattle.clk_machine.specs.Plan.{CpuPlan, ReaderPlan, count_of, all_words, threads_of}
 use Rattle.clk_machine.specs.Tickets.{tickets_of, boot_tickets, word_tickets, tickets_needed}
 use Rattle.clk_machine.proofs.Counting.{length-repeat, script_sum}
-use Rattle.clk_trace.specs.Counting.{steps_of_word, word_steps}
+use Rattle.clk_lawful.specs.Counting.{steps_of_word, word_steps}
 use Rattle.clk_make.specs.Made.{made_cpus, made_readers, cpu_word, reader_word, cpu_script, reader_script, made_cpu, made_reader, made}
 use Rattle.clk_make.specs.Numbers.{made_words, cpu_tickets, made_tickets, made_steps}
 use Rattle.clk_make.proofs.Lists.{sum_by-map, sum_by-same, sum_range-same, sum_range-all, enumerated}

@@ -3,8 +3,8 @@ use Rattle.std.specs.Prelude.{◌≡◌, ℕ, ◌+◌, length}
 use Rattle.std.specs.List.{sum_by}
 use Rattle.clk_machine.specs.Plan.{Plan, cpu_count, threads_of}
 use Rattle.clk_machine.specs.Tickets.{tickets_needed}
-use Rattle.clk_trace.specs.LawfulTrace.{IsLawful}
-use Rattle.clk_trace.specs.declared.trace.Trace.{Trace}
+use Rattle.clk_lawful.specs.LawfulTrace.{IsLawful}
+use Rattle.clk_lawful.specs.declared.trace.Trace.{Trace}
 use Rattle.clk_make.specs.Made.{made_cpus, made_readers, made}
 use Rattle.clk_make.specs.Numbers.{made_words, made_tickets, made_steps}
 

@@ -1,10 +1,11 @@
 //! A trace of many threads on several CPUs: its histories are found from the events.
 ghost use Rattle.std.specs.Prelude.{◌≡◌, ◌<◌, ◌≤◌, [], length, IfOk, All};
-ghost use Rattle.clk_trace.specs.Filling.{MayFill, NamesWordsBelow};
+ghost use Rattle.clk_lawful.specs.Filling.{MayFill, NamesWordsBelow};
 
 use crate::trace::{no_ups, raw};
 use clk_num::List;
-use clk_trace::{Event, EventKind, HistoryStep, Trace, histories};
+use clk_lawful::{Event, EventKind, HistoryStep, Trace};
+use clk_trace::histories;
 use clk_record::Mode;
 use std::alloc::{AllocError, Global};
 use std::test::Fail;

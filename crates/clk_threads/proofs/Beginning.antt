@@ -21,8 +21,8 @@ use Rattle.clk_latch.specs.Epoch.{Epoch}
 use Rattle.clk_latch.specs.Epoch.{Place as LatchPlace}
 use Rattle.clk_local.specs.Context.{MayStamp}
 use Rattle.clk_record.specs.declared.up.CpuUp.{CpuUp}
-use Rattle.clk_trace.specs.RightReadings.{adjust_in}
-use Rattle.clk_trace.specs.declared.event.Event.{Event}
+use Rattle.clk_lawful.specs.RightReadings.{adjust_in}
+use Rattle.clk_lawful.specs.declared.event.Event.{Event}
 use Rattle.clk_worker.specs.declared.own.Own.{Own}
 use Rattle.clk_worker.specs.declared.own.Post.{Post}
 use Rattle.clk_worker.specs.Making.{Hand, FitTogether, SeatsServe, MayBegin}

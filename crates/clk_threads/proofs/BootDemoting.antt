@@ -18,10 +18,10 @@ use Rattle.clk_machine.proofs.Readings.{first_readings_are_small}
 use Rattle.clk_latch.specs.Epoch.{Epoch}
 use Rattle.clk_record.specs.declared.up.CpuUp.{CpuUp}
 use Rattle.clk_record.specs.declared.up.BroughtUp.{BroughtUp}
-use Rattle.clk_trace.specs.Checks.{one}
-use Rattle.clk_trace.specs.TicketOrder.{boot_blocks, up_blocks}
-use Rattle.clk_trace.specs.Demoted.{boot_stamp}
-use Rattle.clk_trace.specs.RightReadings.{IsRightStamp}
+use Rattle.clk_lawful.specs.Checks.{one}
+use Rattle.clk_lawful.specs.TicketOrder.{boot_blocks, up_blocks}
+use Rattle.clk_lawful.specs.Demoted.{boot_stamp}
+use Rattle.clk_lawful.specs.RightReadings.{IsRightStamp}
 use Rattle.clk_record.specs.declared.stable.StableStamp.{StableStamp}
 use Rattle.clk_record.specs.declared.stable.Demotion.{Demotion}
 use Rattle.clk_record.specs.Demotions.{IsDemotion}

@@ -32,9 +32,9 @@ use Rattle.clk_adjust.specs.Tickets.{cpu_tickets, up_tickets}
 use Rattle.clk_adjust.proofs.Counters.{readings_by}
 use Rattle.clk_adjust.proofs.Sizes.{IsSmall, run_small}
 use Rattle.clk_adjust.proofs.Going.{IsFar, calls_again}
-use Rattle.clk_trace.specs.RightReadings.{adjust_in}
-use Rattle.clk_trace.specs.Checks.{listed, demotion_blocks}
-use Rattle.clk_trace.specs.TicketOrder.{boot_blocks}
+use Rattle.clk_lawful.specs.RightReadings.{adjust_in}
+use Rattle.clk_lawful.specs.Checks.{listed, demotion_blocks}
+use Rattle.clk_lawful.specs.TicketOrder.{boot_blocks}
 use Rattle.clk_record.specs.declared.stable.StableStamp.{StableStamp}
 use Rattle.clk_record.specs.declared.stable.Demotion.{Demotion}
 use Rattle.clk_threads.specs.Booting.{demotion_tickets, HasDrawnFirst, HasDrawnBefore, IsBooted, IsBootedFor}

@@ -34,15 +34,15 @@ use Rattle.clk_machine.specs.Plan.{Plan, cpu_count, threads_of}
 use Rattle.clk_demote.specs.Context.{Known as WatchKnown}
 use Rattle.clk_demote.specs.Stamping.{epoch_at}
 use Rattle.clk_demote.proofs.Zipping.{zip_at}
-use Rattle.clk_trace.specs.Checks.{listed, demotion_blocks}
-use Rattle.clk_trace.specs.Filling.{FillsHistories}
-use Rattle.clk_trace.specs.Standing.{is_stable}
-use Rattle.clk_trace.specs.TicketOrder.{boot_blocks, up_blocks}
-use Rattle.clk_trace.specs.WritableWatch.{MayWriteWatch}
-use Rattle.clk_trace.specs.declared.event.Event.{Event}
-use Rattle.clk_trace.specs.declared.trace.HistoryStep.{HistoryStep}
-use Rattle.clk_trace.specs.declared.trace.Trace.{Trace}
-use Rattle.clk_trace.specs.declared.trace.WatchTrace.{WatchTrace}
+use Rattle.clk_lawful.specs.Checks.{listed, demotion_blocks}
+use Rattle.clk_lawful.specs.Filling.{FillsHistories}
+use Rattle.clk_lawful.specs.Standing.{is_stable}
+use Rattle.clk_lawful.specs.TicketOrder.{boot_blocks, up_blocks}
+use Rattle.clk_lawful.specs.WritableWatch.{MayWriteWatch}
+use Rattle.clk_lawful.specs.declared.event.Event.{Event}
+use Rattle.clk_lawful.specs.declared.trace.HistoryStep.{HistoryStep}
+use Rattle.clk_lawful.specs.declared.trace.Trace.{Trace}
+use Rattle.clk_lawful.specs.declared.trace.WatchTrace.{WatchTrace}
 use Rattle.clk_trace.proofs.Gaining.{each_from}
 use Rattle.clk_worker.specs.declared.own.Own.{Own}
 use Rattle.clk_worker.specs.declared.shared.Shared.{Shared}

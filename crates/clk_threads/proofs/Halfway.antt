@@ -8,7 +8,7 @@ use Rattle.std.proofs.lemmas.List.Elements.{All-nil, All-cons, All-head, All-tai
 use Rattle.clk_base.specs.Walk.{EachFrom}
 use Rattle.clk_machine.specs.Plan.{threads_of}
 use Rattle.clk_record.specs.ChecksAsked.{checks_asked}
-use Rattle.clk_trace.specs.Checks.{listed}
+use Rattle.clk_lawful.specs.Checks.{listed}
 use Rattle.clk_worker.specs.declared.shared.Shared.{Shared}
 use Rattle.clk_worker.specs.Making.{Hand, script_of}
 use Rattle.clk_watcher.specs.Making.{Hand as WatchHand, BelongsTo as WatchBelongsTo}

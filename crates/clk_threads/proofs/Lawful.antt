@@ -4,10 +4,10 @@ use Rattle.std.proofs.Common.{◌≡◌, ℕ, ◌+◌, ◌<◌, ℤ, Bool, true,
 use Rattle.clk_record.specs.declared.step.Step.{Step}
 use Rattle.clk_machine.specs.Plan.{Plan, cpu_count}
 use Rattle.clk_record.specs.declared.stable.Demotion.{Demotion}
-use Rattle.clk_trace.specs.LawfulTrace.{IsLawful}
-use Rattle.clk_trace.specs.Stamps.{Pair}
-use Rattle.clk_trace.specs.Standing.{begins_stable, demotion_by}
-use Rattle.clk_trace.specs.declared.trace.Trace.{Trace}
+use Rattle.clk_lawful.specs.LawfulTrace.{IsLawful}
+use Rattle.clk_lawful.specs.Stamps.{Pair}
+use Rattle.clk_lawful.specs.Standing.{begins_stable, demotion_by}
+use Rattle.clk_lawful.specs.declared.trace.Trace.{Trace}
 use Rattle.clk_trace.proofs.Gaining.{each_from}
 use Rattle.clk_threads.specs.Finishing.{Ran, RanWhole, IsRunOf, ShowsHistory}
 use Rattle.clk_threads.proofs.LawfulFields.{lawful_by, shows_by}

@@ -20,26 +20,26 @@ use Rattle.clk_machine.specs.declared.script.Word.{Word}
 use Rattle.clk_record.specs.Demotions.{IsDemotion}
 use Rattle.clk_record.specs.declared.stable.Demotion.{Demotion}
 use Rattle.clk_record.specs.declared.stable.StableStamp.{StableStamp}
-use Rattle.clk_trace.specs.Checks.{listed, pause_of, watch_blocks, checks_in}
-use Rattle.clk_trace.specs.Couples.{CouplesLower}
-use Rattle.clk_trace.specs.Demoted.{boot_stamp, IsDemotedRight, HasDemotions}
-use Rattle.clk_trace.specs.LawfulTrace.{FollowsScripts, HasOpening, HasLegalHistories, HoldsEachStepOnce, HasModes, HasWatchdog, IsLawful}
-use Rattle.clk_trace.specs.LegalHistory.{ReachesTarget, NamesSource, IsLegalHistory}
-use Rattle.clk_trace.specs.Modes.{modes_of}
-use Rattle.clk_trace.specs.RightReadings.{HasRightReadings, IsRightKind, IsRightStamp, taken_stamp, adjust_of}
-use Rattle.clk_trace.specs.ScriptEvents.{AreEventsOf}
-use Rattle.clk_trace.specs.SeenBefore.{stood_at, NeverFalls}
-use Rattle.clk_trace.specs.SortedHistory.{change_of as change_in}
-use Rattle.clk_trace.specs.Stamps.{Pair, no_pair, last_pair, stamp_zero, stamps_of, NamesPair, pair_after, first_numbers, NamesStamps, numbers_after}
-use Rattle.clk_trace.specs.Standing.{is_stable, begins_stable, standing_offset}
-use Rattle.clk_trace.specs.Threads.{owners}
-use Rattle.clk_trace.specs.TicketOrder.{first_blocks, thread_blocks, IsTicketOrder}
-use Rattle.clk_trace.specs.Updates.{records_of, OwnsRecords, record_after, NamesLater, named_after}
-use Rattle.clk_trace.specs.Watchdog.{AreChecks, AreCalledFor}
-use Rattle.clk_trace.specs.WordHistory.{Placed, steps_from, all_steps as trace_steps, lift_steps, steps_of, placed_on, line_of, IsHistoryOf}
-use Rattle.clk_trace.specs.declared.event.Event.{Event}
-use Rattle.clk_trace.specs.declared.trace.HistoryStep.{HistoryStep}
-use Rattle.clk_trace.specs.declared.trace.Trace.{Trace}
+use Rattle.clk_lawful.specs.Checks.{listed, pause_of, watch_blocks, checks_in}
+use Rattle.clk_lawful.specs.Couples.{CouplesLower}
+use Rattle.clk_lawful.specs.Demoted.{boot_stamp, IsDemotedRight, HasDemotions}
+use Rattle.clk_lawful.specs.LawfulTrace.{FollowsScripts, HasOpening, HasLegalHistories, HoldsEachStepOnce, HasModes, HasWatchdog, IsLawful}
+use Rattle.clk_lawful.specs.LegalHistory.{ReachesTarget, NamesSource, IsLegalHistory}
+use Rattle.clk_lawful.specs.Modes.{modes_of}
+use Rattle.clk_lawful.specs.RightReadings.{HasRightReadings, IsRightKind, IsRightStamp, taken_stamp, adjust_of}
+use Rattle.clk_lawful.specs.ScriptEvents.{AreEventsOf}
+use Rattle.clk_lawful.specs.SeenBefore.{stood_at, NeverFalls}
+use Rattle.clk_lawful.specs.SortedHistory.{change_of as change_in}
+use Rattle.clk_lawful.specs.Stamps.{Pair, no_pair, last_pair, stamp_zero, stamps_of, NamesPair, pair_after, first_numbers, NamesStamps, numbers_after}
+use Rattle.clk_lawful.specs.Standing.{is_stable, begins_stable, standing_offset}
+use Rattle.clk_lawful.specs.Threads.{owners}
+use Rattle.clk_lawful.specs.TicketOrder.{first_blocks, thread_blocks, IsTicketOrder}
+use Rattle.clk_lawful.specs.Updates.{records_of, OwnsRecords, record_after, NamesLater, named_after}
+use Rattle.clk_lawful.specs.Watchdog.{AreChecks, AreCalledFor}
+use Rattle.clk_lawful.specs.WordHistory.{Placed, steps_from, all_steps as trace_steps, lift_steps, steps_of, placed_on, line_of, IsHistoryOf}
+use Rattle.clk_lawful.specs.declared.event.Event.{Event}
+use Rattle.clk_lawful.specs.declared.trace.HistoryStep.{HistoryStep}
+use Rattle.clk_lawful.specs.declared.trace.Trace.{Trace}
 use Rattle.clk_worker.proofs.RunHistory.{HoldsSteps, in_order, sorted_word, legal_words, names_sources}
 use Rattle.clk_worker.proofs.RunModes.{AreOfMode}
 use Rattle.clk_worker.proofs.RunNamed.{NamesIn}

@@ -11,10 +11,10 @@ use Rattle.clk_record.specs.declared.step.Step.{Step}
 use Rattle.clk_machine.specs.Plan.{Plan, CpuPlan, ReaderPlan, count_of, cpu_count, all_words, thread_at, threads_of}
 use Rattle.clk_machine.specs.Limits.{IsReader, IsWithinLimits}
 use Rattle.clk_machine.specs.declared.script.Word.{Word}
-use Rattle.clk_trace.specs.Threads.{own_events}
-use Rattle.clk_trace.specs.WordHistory.{Placed, steps_from, all_steps}
-use Rattle.clk_trace.specs.declared.event.Event.{Event}
-use Rattle.clk_trace.specs.declared.trace.Trace.{Trace}
+use Rattle.clk_lawful.specs.Threads.{own_events}
+use Rattle.clk_lawful.specs.WordHistory.{Placed, steps_from, all_steps}
+use Rattle.clk_lawful.specs.declared.event.Event.{Event}
+use Rattle.clk_lawful.specs.declared.trace.Trace.{Trace}
 use Rattle.clk_trace.proofs.Gaining.{each_from}
 use Rattle.clk_worker.proofs.RunSteps.{numbered}
 use Rattle.clk_threads.specs.Finishing.{Ran, events_of}

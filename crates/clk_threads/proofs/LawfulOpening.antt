@@ -5,10 +5,10 @@ use Rattle.clk_record.specs.declared.step.Step.{Step}
 use Rattle.clk_machine.specs.Plan.{Plan}
 use Rattle.clk_record.specs.declared.stable.StableStamp.{StableStamp}
 use Rattle.clk_record.specs.declared.stable.Demotion.{Demotion}
-use Rattle.clk_trace.specs.LawfulTrace.{opening_at}
-use Rattle.clk_trace.specs.Standing.{is_stable, begins_stable, demotion_by, either_demotion, offset_at, standing_offset}
-use Rattle.clk_trace.specs.Stamps.{no_pair, last_pair, pair_at, stamp_zero}
-use Rattle.clk_trace.specs.declared.trace.Trace.{Trace}
+use Rattle.clk_lawful.specs.LawfulTrace.{opening_at}
+use Rattle.clk_lawful.specs.Standing.{is_stable, begins_stable, demotion_by, either_demotion, offset_at, standing_offset}
+use Rattle.clk_lawful.specs.Stamps.{no_pair, last_pair, pair_at, stamp_zero}
+use Rattle.clk_lawful.specs.declared.trace.Trace.{Trace}
 use Rattle.clk_num.specs.Wrapping.{wrap}
 use Rattle.clk_words.specs.Bounds.{opens_of}
 use Rattle.clk_threads.specs.Booting.{gtod_offset_of, opening_of, IsBootDemotion}

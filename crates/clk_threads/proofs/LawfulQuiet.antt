@@ -4,11 +4,11 @@ use Rattle.std.proofs.Common.{ℤ, Bool, true, List, [], ◌∷◌}
 use Rattle.std.specs.List.{All}
 use Rattle.std.proofs.lemmas.List.Elements.{All-head, All-tail}
 use Rattle.clk_base.specs.Walk.{Along}
-use Rattle.clk_trace.specs.Modes.{Modes, IsOfMode, turned_after}
-use Rattle.clk_trace.specs.Stamps.{Pair, Numbers, NamesPair, pair_after, NamesStamps, numbers_after}
-use Rattle.clk_trace.specs.declared.event.Event.{Event}
-use Rattle.clk_trace.specs.declared.event.EventKind.{EventKind}
-use Rattle.clk_trace.specs.declared.event.EventKind.TheVariants.{Stable, Local, Couple, Stamp, Nothing, Update, Pause}
+use Rattle.clk_lawful.specs.Modes.{Modes, IsOfMode, turned_after}
+use Rattle.clk_lawful.specs.Stamps.{Pair, Numbers, NamesPair, pair_after, NamesStamps, numbers_after}
+use Rattle.clk_lawful.specs.declared.event.Event.{Event}
+use Rattle.clk_lawful.specs.declared.event.EventKind.{EventKind}
+use Rattle.clk_lawful.specs.declared.event.EventKind.TheVariants.{Stable, Local, Couple, Stamp, Nothing, Update, Pause}
 use Rattle.clk_worker.proofs.RunModes.{AreOfMode}
 
 abbrev pub IsQuiet : EventKind → Type 0

@@ -15,13 +15,13 @@ use Rattle.clk_words.specs.Histories.{is_lift, IsInOrder, IsGlobalHistory}
 use Rattle.clk_words.specs.Parts.{gtod_of, raw_of, part_of}
 use Rattle.clk_machine.specs.Plan.{Plan, cpu_count, thread_at}
 use Rattle.clk_record.specs.declared.stable.Demotion.{Demotion}
-use Rattle.clk_trace.specs.Stamps.{Pair, no_pair, last_pair, pair_at, stamp_zero}
-use Rattle.clk_trace.specs.Standing.{begins_stable, demotion_by, either_demotion, offset_at, standing_offset}
-use Rattle.clk_trace.specs.WordHistory.{Placed, steps_of_kind, steps_from}
-use Rattle.clk_trace.specs.declared.event.Event.{Event}
-use Rattle.clk_trace.specs.declared.event.EventKind.{EventKind}
-use Rattle.clk_trace.specs.declared.event.EventKind.TheVariants as event
-use Rattle.clk_trace.specs.declared.trace.Trace.{Trace}
+use Rattle.clk_lawful.specs.Stamps.{Pair, no_pair, last_pair, pair_at, stamp_zero}
+use Rattle.clk_lawful.specs.Standing.{begins_stable, demotion_by, either_demotion, offset_at, standing_offset}
+use Rattle.clk_lawful.specs.WordHistory.{Placed, steps_of_kind, steps_from}
+use Rattle.clk_lawful.specs.declared.event.Event.{Event}
+use Rattle.clk_lawful.specs.declared.event.EventKind.{EventKind}
+use Rattle.clk_lawful.specs.declared.event.EventKind.TheVariants as event
+use Rattle.clk_lawful.specs.declared.trace.Trace.{Trace}
 use Rattle.clk_worker.proofs.RunParts.{MayHave, zero_stays}
 use Rattle.clk_worker.proofs.RunSteps.{numbered}
 use Rattle.clk_threads.specs.Finishing.{Ran, RanWhole, KnowsNoMore, IsRunOf}

@@ -20,18 +20,18 @@ use Rattle.clk_words.specs.Rights.{owned_by}
 use Rattle.clk_machine.specs.Plan.{Plan, cpu_count, thread_at}
 use Rattle.clk_machine.specs.Records.{record_zero}
 use Rattle.clk_local.specs.Context.{Site}
-use Rattle.clk_trace.specs.Modes.{modes_of}
-use Rattle.clk_trace.specs.RightReadings.{IsRightKind, adjust_of}
-use Rattle.clk_trace.specs.ScriptEvents.{AreEventsOf}
-use Rattle.clk_trace.specs.SeenBefore.{stood_at, NeverFalls}
-use Rattle.clk_trace.specs.Standing.{begins_stable, standing_offset}
-use Rattle.clk_trace.specs.Stamps.{Pair, stamp_zero, stamp_of_kind, stamps_of, NamesPair, pair_after, first_numbers, NamesStamps, numbers_after}
-use Rattle.clk_trace.specs.Threads.{own_events}
-use Rattle.clk_trace.specs.TicketOrder.{first_blocks, thread_blocks}
-use Rattle.clk_trace.specs.Updates.{records_of, OwnsRecords, record_after}
-use Rattle.clk_trace.specs.WordHistory.{steps_from}
-use Rattle.clk_trace.specs.declared.event.Event.{Event}
-use Rattle.clk_trace.specs.declared.trace.Trace.{Trace}
+use Rattle.clk_lawful.specs.Modes.{modes_of}
+use Rattle.clk_lawful.specs.RightReadings.{IsRightKind, adjust_of}
+use Rattle.clk_lawful.specs.ScriptEvents.{AreEventsOf}
+use Rattle.clk_lawful.specs.SeenBefore.{stood_at, NeverFalls}
+use Rattle.clk_lawful.specs.Standing.{begins_stable, standing_offset}
+use Rattle.clk_lawful.specs.Stamps.{Pair, stamp_zero, stamp_of_kind, stamps_of, NamesPair, pair_after, first_numbers, NamesStamps, numbers_after}
+use Rattle.clk_lawful.specs.Threads.{own_events}
+use Rattle.clk_lawful.specs.TicketOrder.{first_blocks, thread_blocks}
+use Rattle.clk_lawful.specs.Updates.{records_of, OwnsRecords, record_after}
+use Rattle.clk_lawful.specs.WordHistory.{steps_from}
+use Rattle.clk_lawful.specs.declared.event.Event.{Event}
+use Rattle.clk_lawful.specs.declared.trace.Trace.{Trace}
 use Rattle.clk_trace.proofs.Gaining.{each_from}
 use Rattle.clk_worker.proofs.RunLifted.{StoodAt}
 use Rattle.clk_worker.proofs.RunModes.{AreOfMode}

@@ -19,18 +19,18 @@ use Rattle.clk_record.specs.declared.stable.Demotion.{Demotion}
 use Rattle.clk_record.specs.Demotions.{IsDemotion}
 use Rattle.clk_demote.specs.Shows.{adjust_at}
 use Rattle.clk_demote.specs.Stamping.{epoch_at}
-use Rattle.clk_trace.specs.Checks.{Visit, Check, listed, pause_of, visits_of, watch_blocks, checks_of, checks_in}
-use Rattle.clk_trace.specs.Demoted.{HasOffset, last_stamp, boot_stamp, IsLiftOf, IsDemotedBy, IsDemotedRight}
-use Rattle.clk_trace.specs.RightReadings.{adjust_of, check_cpu, named_in, NeverFall, IsRightVisit}
-use Rattle.clk_trace.specs.LegalHistory.{ReachesTarget}
-use Rattle.clk_trace.specs.SeenBefore.{stood_at}
-use Rattle.clk_trace.specs.Standing.{begins_stable, demotion_by, lifts_by, lifted_from}
-use Rattle.clk_trace.specs.TicketOrder.{first_blocks}
-use Rattle.clk_trace.specs.Updates.{records_of}
-use Rattle.clk_trace.specs.Watchdog.{AreCalledFor}
-use Rattle.clk_trace.specs.WordHistory.{Placed, placed_lift, lift_steps}
-use Rattle.clk_trace.specs.declared.trace.WatchTrace.{WatchTrace}
-use Rattle.clk_trace.specs.declared.trace.Trace.{Trace}
+use Rattle.clk_lawful.specs.Checks.{Visit, Check, listed, pause_of, visits_of, watch_blocks, checks_of, checks_in}
+use Rattle.clk_lawful.specs.Demoted.{HasOffset, last_stamp, boot_stamp, IsLiftOf, IsDemotedBy, IsDemotedRight}
+use Rattle.clk_lawful.specs.RightReadings.{adjust_of, check_cpu, named_in, NeverFall, IsRightVisit}
+use Rattle.clk_lawful.specs.LegalHistory.{ReachesTarget}
+use Rattle.clk_lawful.specs.SeenBefore.{stood_at}
+use Rattle.clk_lawful.specs.Standing.{begins_stable, demotion_by, lifts_by, lifted_from}
+use Rattle.clk_lawful.specs.TicketOrder.{first_blocks}
+use Rattle.clk_lawful.specs.Updates.{records_of}
+use Rattle.clk_lawful.specs.Watchdog.{AreCalledFor}
+use Rattle.clk_lawful.specs.WordHistory.{Placed, placed_lift, lift_steps}
+use Rattle.clk_lawful.specs.declared.trace.WatchTrace.{WatchTrace}
+use Rattle.clk_lawful.specs.declared.trace.Trace.{Trace}
 use Rattle.clk_worker.proofs.RunLifted.{IsLiftIn, StoodAt, lifted_stood}
 use Rattle.clk_worker.proofs.RunLifts.{numbered_lifts, lifts_reach, lifts_name}
 use Rattle.clk_worker.proofs.RunNamed.{NamesIn}

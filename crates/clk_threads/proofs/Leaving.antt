@@ -22,8 +22,8 @@ use Rattle.clk_machine.specs.Plan.{thread_at, threads_of}
 use Rattle.clk_latch.specs.Epoch.{Epoch}
 use Rattle.clk_latch.specs.Epoch.{Place as LatchPlace}
 use Rattle.clk_local.specs.Context.{Known}
-use Rattle.clk_trace.specs.ScriptEvents.{AreEventsOf}
-use Rattle.clk_trace.specs.declared.event.Event.{Event}
+use Rattle.clk_lawful.specs.ScriptEvents.{AreEventsOf}
+use Rattle.clk_lawful.specs.declared.event.Event.{Event}
 use Rattle.clk_worker.specs.declared.own.Own.{Own}
 use Rattle.clk_worker.specs.declared.own.Post.{Post}
 use Rattle.clk_worker.specs.Calling.{site_at, has}

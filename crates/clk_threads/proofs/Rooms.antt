@@ -14,16 +14,16 @@ use Rattle.clk_machine.specs.Plan.{Plan, count_of, cpu_count, thread_at, threads
 use Rattle.clk_machine.specs.Limits.{IsWithinLimits}
 use Rattle.clk_machine.specs.Steps.{on_word, steps_for}
 use Rattle.clk_record.specs.declared.step.Why.TheVariants as why
-use Rattle.clk_trace.specs.Couples.{CouplesLower, named_word, named_value}
-use Rattle.clk_trace.specs.Filling.{NamesWordsBelow, MayFill, lines_on}
-use Rattle.clk_trace.specs.ScriptEvents.{IsOwnReading, IsRemoteReading, IsTick, IsUpdate, IsPause, Calls, events_at, AreEventsOf}
-use Rattle.clk_trace.specs.WordHistory.{Placed, steps_of_kind, steps_from, all_steps, lift_steps, placed_on, line_of}
-use Rattle.clk_trace.specs.declared.event.Event.{Event}
-use Rattle.clk_trace.specs.declared.event.EventKind.{EventKind}
-use Rattle.clk_trace.specs.declared.event.EventKind.TheVariants.{Stable, Local, Couple, Stamp, Nothing, Update, Pause}
-use Rattle.clk_trace.specs.declared.trace.HistoryStep.{HistoryStep}
-use Rattle.clk_trace.specs.declared.trace.WatchTrace.{WatchTrace}
-use Rattle.clk_trace.specs.Standing.{lifts_by}
+use Rattle.clk_lawful.specs.Couples.{CouplesLower, named_word, named_value}
+use Rattle.clk_lawful.specs.Filling.{NamesWordsBelow, MayFill, lines_on}
+use Rattle.clk_lawful.specs.ScriptEvents.{IsOwnReading, IsRemoteReading, IsTick, IsUpdate, IsPause, Calls, events_at, AreEventsOf}
+use Rattle.clk_lawful.specs.WordHistory.{Placed, steps_of_kind, steps_from, all_steps, lift_steps, placed_on, line_of}
+use Rattle.clk_lawful.specs.declared.event.Event.{Event}
+use Rattle.clk_lawful.specs.declared.event.EventKind.{EventKind}
+use Rattle.clk_lawful.specs.declared.event.EventKind.TheVariants.{Stable, Local, Couple, Stamp, Nothing, Update, Pause}
+use Rattle.clk_lawful.specs.declared.trace.HistoryStep.{HistoryStep}
+use Rattle.clk_lawful.specs.declared.trace.WatchTrace.{WatchTrace}
+use Rattle.clk_lawful.specs.Standing.{lifts_by}
 use Rattle.clk_worker.specs.Making.{Hand}
 use Rattle.clk_worker.proofs.Scripts.{thread_words}
 use Rattle.clk_threads.specs.Preparing.{lifts_room, no_steps, histories_below, IsPrepared}

@@ -10,7 +10,7 @@ use Rattle.clk_words.specs.contracts.words.Words
 use Rattle.clk_latch.specs.contracts.seat.LatchSeat
 use Rattle.clk_latch.specs.contracts.latch.Latch
 use Rattle.clk_ticket.specs.contracts.seat.TimeSeat
-use Rattle.clk_trace.specs.contracts.event.Event
+use Rattle.clk_lawful.specs.contracts.event.Event
 use Rattle.clk_worker.specs.contracts.own.Own
 use Rattle.clk_worker.specs.contracts.shared.Shared
 use Rattle.clk_worker.specs.contracts.worker.Worker

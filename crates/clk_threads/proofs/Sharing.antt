@@ -9,7 +9,7 @@ use Rattle.clk_machine.specs.declared.parts.WatchPart.{WatchPart}
 use Rattle.clk_machine.specs.Plan.{Plan, threads_of}
 use Rattle.clk_machine.specs.Tickets.{word_tickets, watch_tickets}
 use Rattle.clk_machine.specs.declared.script.Word.{Word}
-use Rattle.clk_trace.specs.Checks.{listed}
+use Rattle.clk_lawful.specs.Checks.{listed}
 use Rattle.clk_threads.specs.Preparing.{thread_tickets, time_seat, watch_time}
 
 -- what f gives for one item more

@@ -19,9 +19,9 @@ use Rattle.clk_machine.specs.Time.{reference_at, reference_rate, gtod_at}
 use Rattle.clk_machine.specs.Records.{record_zero, base_of}
 use Rattle.clk_machine.proofs.Travel.{time_rises}
 use Rattle.clk_latch.specs.Epoch.{Epoch, owner_of}
-use Rattle.clk_trace.specs.Checks.{one}
-use Rattle.clk_trace.specs.TicketOrder.{boot_blocks, up_blocks}
-use Rattle.clk_trace.specs.RightReadings.{IsRightStamp}
+use Rattle.clk_lawful.specs.Checks.{one}
+use Rattle.clk_lawful.specs.TicketOrder.{boot_blocks, up_blocks}
+use Rattle.clk_lawful.specs.RightReadings.{IsRightStamp}
 use Rattle.clk_record.specs.declared.stable.StableStamp.{StableStamp}
 use Rattle.clk_threads.specs.Booting.{HasEpoch, MayStampAtBoot, HasStamped, gtod_offset_of, AreStamps, HasDrawnFirst}
 

@@ -7,7 +7,7 @@ use Rattle.std.proofs.lemmas.List.Elements.{All-nil, All-cons, All-head}
 use Rattle.clk_base.specs.Walk.{EachFrom}
 use Rattle.clk_num.specs.Listed.{Listed}
 use Rattle.clk_machine.specs.Plan.{threads_of}
-use Rattle.clk_trace.specs.Checks.{listed}
+use Rattle.clk_lawful.specs.Checks.{listed}
 use Rattle.clk_worker.specs.Making.{Hand, WentOn}
 use Rattle.clk_watcher.specs.Making.{Hand as WatchHand, WentOn as WatchWentOn}
 use Rattle.clk_threads.specs.Preparing.{watch_seat, IsPrepared}

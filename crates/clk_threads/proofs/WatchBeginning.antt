@@ -24,11 +24,11 @@ use Rattle.clk_machine.specs.Records.{record_zero, above_base}
 use Rattle.clk_latch.specs.Epoch.{Place as LatchPlace}
 use Rattle.clk_local.specs.Context.{BeginsAtBase}
 use Rattle.clk_record.specs.declared.up.CpuUp.{CpuUp}
-use Rattle.clk_trace.specs.Checks.{listed}
-use Rattle.clk_trace.specs.Demoted.{last_stamp, boot_stamp}
-use Rattle.clk_trace.specs.RightReadings.{adjust_in}
-use Rattle.clk_trace.specs.Stamps.{Pair, no_pair, boot_pair, last_pair}
-use Rattle.clk_trace.specs.declared.trace.WatchTrace.{WatchTrace}
+use Rattle.clk_lawful.specs.Checks.{listed}
+use Rattle.clk_lawful.specs.Demoted.{last_stamp, boot_stamp}
+use Rattle.clk_lawful.specs.RightReadings.{adjust_in}
+use Rattle.clk_lawful.specs.Stamps.{Pair, no_pair, boot_pair, last_pair}
+use Rattle.clk_lawful.specs.declared.trace.WatchTrace.{WatchTrace}
 use Rattle.clk_record.specs.declared.stable.StableStamp.{StableStamp}
 use Rattle.clk_record.specs.declared.stable.Demotion.{Demotion}
 use Rattle.clk_record.specs.Demotions.{offset_by}

@@ -20,7 +20,7 @@ use Rattle.clk_record.specs.declared.stable.StableStamp.{StableStamp}
 use Rattle.clk_record.specs.declared.stable.Demotion.{Demotion}
 use Rattle.clk_demote.specs.Context.{Site, Known}
 use Rattle.clk_record.specs.ChecksAsked.{checks_asked}
-use Rattle.clk_trace.specs.Checks.{Visit, Check, listed}
+use Rattle.clk_lawful.specs.Checks.{Visit, Check, listed}
 use Rattle.clk_worker.specs.declared.shared.Shared.{Shared}
 use Rattle.clk_watcher.specs.Checking.{StampsAt, DemotesAt, WatchesVisits, Watches, HasWatched}
 use Rattle.clk_watcher.specs.Making.{site_at, has}

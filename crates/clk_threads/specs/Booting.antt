@@ -15,11 +15,11 @@ use Rattle.clk_machine.specs.Records.{record_zero, above_base}
 use Rattle.clk_latch.specs.Epoch.{Epoch}
 use Rattle.clk_record.specs.declared.up.CpuUp.{CpuUp}
 use Rattle.clk_record.specs.declared.up.BroughtUp.{BroughtUp}
-use Rattle.clk_trace.specs.TicketOrder.{boot_blocks, up_blocks}
-use Rattle.clk_trace.specs.Checks.{listed, demotion_blocks}
-use Rattle.clk_trace.specs.Demoted.{boot_stamp}
-use Rattle.clk_trace.specs.RightReadings.{IsRightStamp, taken_stamp}
-use Rattle.clk_trace.specs.Stamps.{no_pair, first_pair, last_pair}
+use Rattle.clk_lawful.specs.TicketOrder.{boot_blocks, up_blocks}
+use Rattle.clk_lawful.specs.Checks.{listed, demotion_blocks}
+use Rattle.clk_lawful.specs.Demoted.{boot_stamp}
+use Rattle.clk_lawful.specs.RightReadings.{IsRightStamp, taken_stamp}
+use Rattle.clk_lawful.specs.Stamps.{no_pair, first_pair, last_pair}
 use Rattle.clk_record.specs.Demotions.{IsDemotion}
 use Rattle.clk_record.specs.declared.stable.StableStamp.{StableStamp}
 use Rattle.clk_record.specs.declared.stable.Demotion.{Demotion}

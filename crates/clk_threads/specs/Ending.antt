@@ -18,11 +18,11 @@ use Rattle.clk_words.specs.Views.{together}
 use Rattle.clk_machine.specs.Limits.{IsWithinLimits}
 use Rattle.clk_machine.specs.Plan.{Plan, cpu_count, thread_at, threads_of}
 use Rattle.clk_latch.specs.Epoch.{Place as LatchPlace}
-use Rattle.clk_trace.specs.Checks.{listed}
-use Rattle.clk_trace.specs.Filling.{MayFill, FillsHistories}
-use Rattle.clk_trace.specs.declared.event.Event.{Event}
-use Rattle.clk_trace.specs.declared.trace.Trace.{Trace}
-use Rattle.clk_trace.specs.declared.trace.WatchTrace.{WatchTrace}
+use Rattle.clk_lawful.specs.Checks.{listed}
+use Rattle.clk_lawful.specs.Filling.{MayFill, FillsHistories}
+use Rattle.clk_lawful.specs.declared.event.Event.{Event}
+use Rattle.clk_lawful.specs.declared.trace.Trace.{Trace}
+use Rattle.clk_lawful.specs.declared.trace.WatchTrace.{WatchTrace}
 use Rattle.clk_worker.specs.declared.own.Own.{Own}
 use Rattle.clk_worker.specs.declared.shared.Shared.{Shared}
 use Rattle.clk_worker.specs.Making.{Hand}

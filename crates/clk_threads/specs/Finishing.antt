@@ -28,17 +28,17 @@ use Rattle.clk_record.specs.BroughtUp.{IsBroughtUp}
 use Rattle.clk_record.specs.declared.stable.StableStamp.{StableStamp}
 use Rattle.clk_demote.specs.Context.{Site as WatchSite, Known as WatchKnown}
 use Rattle.clk_demote.specs.Stamping.{epoch_at}
-use Rattle.clk_trace.specs.Checks.{listed, demotion_blocks}
-use Rattle.clk_trace.specs.Demoted.{boot_stamp}
-use Rattle.clk_trace.specs.Standing.{begins_stable}
-use Rattle.clk_trace.specs.Filling.{FillsHistories}
-use Rattle.clk_trace.specs.RightReadings.{adjust_in}
-use Rattle.clk_trace.specs.ScriptEvents.{AreEventsOf}
-use Rattle.clk_trace.specs.SortedHistory.{Change, change_of as change_in}
-use Rattle.clk_trace.specs.TicketOrder.{boot_blocks, up_blocks}
-use Rattle.clk_trace.specs.declared.event.Event.{Event}
-use Rattle.clk_trace.specs.declared.trace.WatchTrace.{WatchTrace}
-use Rattle.clk_trace.specs.declared.trace.Trace.{Trace}
+use Rattle.clk_lawful.specs.Checks.{listed, demotion_blocks}
+use Rattle.clk_lawful.specs.Demoted.{boot_stamp}
+use Rattle.clk_lawful.specs.Standing.{begins_stable}
+use Rattle.clk_lawful.specs.Filling.{FillsHistories}
+use Rattle.clk_lawful.specs.RightReadings.{adjust_in}
+use Rattle.clk_lawful.specs.ScriptEvents.{AreEventsOf}
+use Rattle.clk_lawful.specs.SortedHistory.{Change, change_of as change_in}
+use Rattle.clk_lawful.specs.TicketOrder.{boot_blocks, up_blocks}
+use Rattle.clk_lawful.specs.declared.event.Event.{Event}
+use Rattle.clk_lawful.specs.declared.trace.WatchTrace.{WatchTrace}
+use Rattle.clk_lawful.specs.declared.trace.Trace.{Trace}
 use Rattle.clk_worker.specs.Running.{Runs}
 use Rattle.clk_watcher.specs.Checking.{HasWatched}
 use Rattle.clk_threads.specs.Booting.{gtod_offset_of, sched_offset_of, AreStamps, FitsBoot, HasDrawnBefore}

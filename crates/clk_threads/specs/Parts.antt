@@ -3,7 +3,7 @@ use Rattle.std.specs.Prelude.{◌≡◌, ℕ, ◌<◌, Bool, not, ◌&&◌, is_s
 use Rattle.std.specs.List.{All}
 use Rattle.clk_machine.specs.Plan.{threads_of}
 use Rattle.clk_record.specs.ChecksAsked.{checks_asked}
-use Rattle.clk_trace.specs.Checks.{listed}
+use Rattle.clk_lawful.specs.Checks.{listed}
 use Rattle.clk_worker.specs.declared.shared.Shared.{Shared}
 use Rattle.clk_worker.specs.Making.{Hand, script_of, IsGoing}
 use Rattle.clk_watcher.specs.Making.{Hand as WatchHand, IsGoing as IsWatchGoing}

@@ -3,7 +3,7 @@ use Rattle.std.specs.Prelude.{◌≡◌, ℕ, length, Option}
 use Rattle.std.specs.List.{All}
 use Rattle.clk_base.specs.Walk.{EachFrom}
 use Rattle.clk_machine.specs.Plan.{threads_of}
-use Rattle.clk_trace.specs.Checks.{listed}
+use Rattle.clk_lawful.specs.Checks.{listed}
 use Rattle.clk_worker.specs.Making.{Hand}
 use Rattle.clk_threads.specs.Preparing.{IsPrepared}
 use Rattle.clk_threads.specs.Parts.{shared_of, CameAt, WatchCame}

@@ -22,14 +22,14 @@ use Rattle.clk_latch.specs.Epoch.{Place as LatchPlace}
 use Rattle.clk_record.specs.declared.up.CpuUp.{CpuUp}
 use Rattle.clk_record.specs.declared.up.BroughtUp.{BroughtUp}
 use Rattle.clk_record.specs.BroughtUp.{IsBroughtUp}
-use Rattle.clk_trace.specs.declared.event.Event.{Event}
-use Rattle.clk_trace.specs.declared.trace.HistoryStep.{HistoryStep}
+use Rattle.clk_lawful.specs.declared.event.Event.{Event}
+use Rattle.clk_lawful.specs.declared.trace.HistoryStep.{HistoryStep}
 use Rattle.clk_record.specs.ChecksAsked.{checks_asked}
 use Rattle.clk_watch.specs.Watching.{started}
 use Rattle.clk_record.specs.declared.stable.StableStamp.{StableStamp}
 use Rattle.clk_record.specs.declared.stable.Demotion.{Demotion}
-use Rattle.clk_trace.specs.Checks.{listed}
-use Rattle.clk_trace.specs.declared.trace.WatchTrace.{WatchTrace}
+use Rattle.clk_lawful.specs.Checks.{listed}
+use Rattle.clk_lawful.specs.declared.trace.WatchTrace.{WatchTrace}
 use Rattle.clk_threads.specs.Booting.{opening_of, sched_offset_of, gtod_offset_of, AreStamps, FitsBoot, HasDrawnBefore, IsDemotedFor}
 use Rattle.clk_threads.specs.declared.opened.Opened.{Opened}
 use Rattle.clk_threads.specs.declared.latches.Latches.{Latches}

@@ -8,7 +8,7 @@ use clk_record::BroughtUp;
 use clk_latch::LatchSeat;
 use clk_machine::Machine;
 use clk_num::List;
-use clk_trace::{Event, HistoryStep, WatchTrace};
+use clk_lawful::{Event, HistoryStep, WatchTrace};
 use clk_watch::Watch;
 use clk_worker::Worker;
 use std::alloc::{AllocError, Global};

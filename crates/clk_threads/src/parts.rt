@@ -1,9 +1,9 @@
 //! A run that can be taken apart: each worker is in its slot or taken.
 ghost use Rattle.std.specs.Prelude.{◌≡◌, ◌<◌, ◌≤◌, All, None, Some, IsSome, [], length, set, slice_index_or};
 ghost use Rattle.clk_machine.specs.Plan.{threads_of};
-ghost use Rattle.clk_trace.specs.Checks.{listed};
-ghost use Rattle.clk_trace.specs.LawfulTrace.{IsLawful};
-ghost use Rattle.clk_trace.specs.WritableWatch.{MayWriteWatch};
+ghost use Rattle.clk_lawful.specs.Checks.{listed};
+ghost use Rattle.clk_lawful.specs.LawfulTrace.{IsLawful};
+ghost use Rattle.clk_lawful.specs.WritableWatch.{MayWriteWatch};
 ghost use Rattle.clk_threads.specs.Preparing.{IsPrepared};
 ghost use Rattle.clk_threads.specs.Finishing.{ShowsHistory};
 ghost use Rattle.clk_threads.specs.Parts.{shared_of, slot_at, with_slot, with_watcher, IsOpenedFrom, CameFrom, WatchCame, AreBack};

@@ -14,7 +14,7 @@ use clk_latch::LatchSeat;
 use clk_machine::{Machine, Published};
 use clk_num::List;
 use clk_ticket::TimeSeat;
-use clk_trace::{Event, HistoryStep, Trace};
+use clk_lawful::{Event, HistoryStep, Trace};
 use clk_watcher::Watcher;
 use clk_words::Seat;
 use clk_worker::{Shared, Worker};

@@ -3,7 +3,7 @@ ghost use Rattle.std.specs.Prelude.{◌≡◌, ◌<◌, ◌≤◌, All, [], leng
 ghost use Rattle.clk_machine.specs.Plan.{cpu_count, threads_of};
 ghost use Rattle.clk_machine.specs.Limits.{IsWithinLimits};
 ghost use Rattle.clk_worker.specs.Making.{BelongsTo};
-ghost use Rattle.clk_trace.specs.Checks.{listed};
+ghost use Rattle.clk_lawful.specs.Checks.{listed};
 ghost use Rattle.clk_watcher.specs.Making.{BelongsTo as WatchBelongsTo};
 ghost use Rattle.clk_threads.specs.Workers.{HaveSeats, IsOfLast, AreInSlots, HaveWatchSeats, IsWatcherOf, HasRun, HaveRun, HasWatchRun, WatcherRan};
 
@@ -12,7 +12,7 @@ use clk_latch::LatchSeat;
 use clk_machine::{Gate, Machine};
 use clk_num::List;
 use clk_ticket::TimeSeat;
-use clk_trace::{Event, WatchTrace};
+use clk_lawful::{Event, WatchTrace};
 use clk_watcher::{WatchParts, Watcher};
 use clk_words::Seat;
 use clk_worker::{Own, Post, Shared, Worker};

@@ -13,8 +13,8 @@ use Rattle.clk_record.specs.declared.up.BroughtUp.{BroughtUp}
 use Rattle.clk_record.specs.declared.up.UpOutcome.TheVariants.{Untested}
 use Rattle.clk_record.specs.BroughtUp.{IsLeft, test_of, IsUp, is_failure, failed_after, IsBroughtUp}
 use Rattle.clk_record.specs.WarpReadings.{all_readings}
-use Rattle.clk_trace.specs.declared.trace.Trace.{Trace}
-use Rattle.clk_trace.specs.LawfulTrace.{IsLawful}
+use Rattle.clk_lawful.specs.declared.trace.Trace.{Trace}
+use Rattle.clk_lawful.specs.LawfulTrace.{IsLawful}
 use Rattle.clk_threads.specs.declared.booted.Booted.{Booted}
 use Rattle.clk_threads.specs.Booting.{IsBooted, IsBootedFor}
 use Rattle.clk_threads.proofs.Bringing.{booted_for}

@@ -4,9 +4,9 @@ use Rattle.clk_machine.specs.Plan.{Plan}
 use Rattle.clk_file.specs.Acceptance.{accepted}
 use Rattle.clk_file.specs.declared.error.FileError.{FileError}
 use Rattle.clk_file.specs.declared.error.FileError.TheVariants as file
-use Rattle.clk_trace.specs.TraceText.{text}
-use Rattle.clk_trace.specs.LawfulTrace.{IsLawful}
-use Rattle.clk_trace.specs.declared.trace.Trace.{Trace}
+use Rattle.clk_lawful.specs.TraceText.{text}
+use Rattle.clk_lawful.specs.LawfulTrace.{IsLawful}
+use Rattle.clk_lawful.specs.declared.trace.Trace.{Trace}
 use Rattle.clk_tool.specs.Make.{MadeRun}
 use Rattle.clk_tool.specs.Rate.{rate_text}
 use Rattle.clk_tool.specs.Whole.{Came, CameMore}

@@ -7,7 +7,7 @@ ghost use Rattle.clk_machine.specs.Limits.{IsWithinLimits};
 ghost use Rattle.clk_record.specs.BroughtUp.{IsLeft, IsBroughtUp};
 ghost use Rattle.clk_record.specs.declared.up.UpOutcome.TheVariants.{Untested};
 ghost use Rattle.clk_record.specs.WarpReadings.{all_readings};
-ghost use Rattle.clk_trace.specs.LawfulTrace.{IsLawful};
+ghost use Rattle.clk_lawful.specs.LawfulTrace.{IsLawful};
 ghost use Rattle.clk_tool.specs.Make.{steps_of, AreSizesOf, MadeRun, made_sizes, sizes_text, make_text};
 ghost use Rattle.clk_tool.specs.Answers.{IsOfRun};
 
@@ -19,7 +19,8 @@ use clk_make::{machine_of, sizes_are_fixed};
 use clk_num::List;
 use clk_threads::{Finished, boot};
 use clk_trace::Part::{Name, Unsigned};
-use clk_trace::{HistoryStep, Out, Sink, Trace, WriteFault};
+use clk_lawful::{HistoryStep, Trace};
+use clk_trace::{Out, Sink, WriteFault};
 use std::alloc::{AllocError, Global};
 use std::thread::Threads;
 

@@ -2,8 +2,8 @@
 ghost use Rattle.std.specs.Prelude.{◌≡◌, ◌⊎◌, ◌+◌, ◌≤◌, None, IfOk, IfErr, IsErrAnd, length};
 ghost use Rattle.clk_base.specs.Causes.{Rose, Grew, GrewByPrefix};
 ghost use Rattle.clk_record.specs.BroughtUp.{IsBroughtUp};
-ghost use Rattle.clk_trace.specs.LawfulTrace.{IsLawful};
-ghost use Rattle.clk_trace.specs.WritableWatch.{MayWriteWatch};
+ghost use Rattle.clk_lawful.specs.LawfulTrace.{IsLawful};
+ghost use Rattle.clk_lawful.specs.WritableWatch.{MayWriteWatch};
 ghost use Rattle.clk_threads.specs.Booting.{IsBooted, IsBootedFor};
 ghost use Rattle.clk_threads.specs.Finishing.{ShowsHistory};
 ghost use Rattle.clk_tool.specs.Whole.{CameAtMost};

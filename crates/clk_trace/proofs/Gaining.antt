@@ -6,11 +6,11 @@ use Rattle.std.specs.List.{refill}
 use Rattle.std.proofs.lemmas.List.Elements.{filter-append}
 use Rattle.clk_base.specs.Walk.{EachFrom}
 use Rattle.clk_num.specs.Listed.{Listed}
-use Rattle.clk_trace.specs.Filling.{lines_on, Gained, HasRoomFor, Sorts}
-use Rattle.clk_trace.specs.WordHistory.{Placed, steps_of_kind, steps_from, placed_lift, placed_on, line_of}
+use Rattle.clk_lawful.specs.Filling.{lines_on, Gained, HasRoomFor, Sorts}
+use Rattle.clk_lawful.specs.WordHistory.{Placed, steps_of_kind, steps_from, placed_lift, placed_on, line_of}
 use Rattle.clk_record.specs.declared.step.Step.{Step}
-use Rattle.clk_trace.specs.declared.event.Event.{Event}
-use Rattle.clk_trace.specs.declared.trace.HistoryStep.{HistoryStep}
+use Rattle.clk_lawful.specs.declared.event.Event.{Event}
+use Rattle.clk_lawful.specs.declared.trace.HistoryStep.{HistoryStep}
 
 pub gained_none : (a : List (Listed HistoryStep)) → Gained a a (λ w. [])
 gained_none a = record {

@@ -5,11 +5,11 @@ use Rattle.std.specs.List.Sorted.{IsPermutation}
 use Rattle.std.proofs.lemmas.List.Sorted.{IsPermutation-refl, IsPermutation-trans, IsPermutation-append_left, IsPermutation-append_right, IsPermutation-append_comm, length_permutation}
 use Rattle.clk_base.specs.Walk.{EachFrom}
 use Rattle.clk_num.specs.Listed.{Listed}
-use Rattle.clk_trace.specs.Filling.{lines_on, lines_left, steps_left, Gained, Keeps, HasRoomFor, AreSorted}
-use Rattle.clk_trace.specs.WordHistory.{Placed, steps_from, all_steps, lift_steps, steps_of, placed_on, IsHistoryOf}
-use Rattle.clk_trace.specs.declared.trace.Trace.{Trace}
-use Rattle.clk_trace.specs.declared.event.Event.{Event}
-use Rattle.clk_trace.specs.declared.trace.HistoryStep.{HistoryStep}
+use Rattle.clk_lawful.specs.Filling.{lines_on, lines_left, steps_left, Gained, Keeps, HasRoomFor, AreSorted}
+use Rattle.clk_lawful.specs.WordHistory.{Placed, steps_from, all_steps, lift_steps, steps_of, placed_on, IsHistoryOf}
+use Rattle.clk_lawful.specs.declared.trace.Trace.{Trace}
+use Rattle.clk_lawful.specs.declared.event.Event.{Event}
+use Rattle.clk_lawful.specs.declared.trace.HistoryStep.{HistoryStep}
 use Rattle.clk_trace.proofs.Gaining.{gained_none, gained_more, lines_on-append, each_from}
 
 pub keeps_none : (a : List (Listed HistoryStep)) (whole : ℕ → List HistoryStep) → Keeps a a whole whole

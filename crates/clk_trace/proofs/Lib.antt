@@ -4,11 +4,5 @@ pub mod Texts
 pub mod WatchTexts
 pub mod WholeText
 pub mod Passing
-pub mod Naming
 pub mod Gaining
 pub mod Keeping
-pub mod Sorting
-pub mod Few
-pub mod CountingBlocks
-pub mod CountingWords
-pub mod CountingLaws

@@ -5,12 +5,12 @@ use Rattle.clk_record.specs.declared.step.Step.{Step}
 use Rattle.clk_record.specs.declared.attempt.Attempt.{Attempt}
 use Rattle.clk_record.specs.declared.stable.StableStamp.{StableStamp}
 use Rattle.clk_record.specs.declared.stable.Demotion.{Demotion}
-use Rattle.clk_trace.specs.Lines.{Line, line_text, text_of}
-use Rattle.clk_trace.specs.Lines.Line.{Demoted, Watchdog, Checking, Attempted, Judged, Stamped, Current}
-use Rattle.clk_trace.specs.Checks.{Visit, Check, listed, checks_of}
-use Rattle.clk_trace.specs.TraceText.{lift_line, demotion_lines, visit_lines, check_lines, watch_lines}
+use Rattle.clk_lawful.specs.Lines.{Line, line_text, text_of}
+use Rattle.clk_lawful.specs.Lines.Line.{Demoted, Watchdog, Checking, Attempted, Judged, Stamped, Current}
+use Rattle.clk_lawful.specs.Checks.{Visit, Check, listed, checks_of}
+use Rattle.clk_lawful.specs.TraceText.{lift_line, demotion_lines, visit_lines, check_lines, watch_lines}
 use Rattle.clk_trace.specs.WriterParts.{attempt_text, stamp_text, demotion_text, visit_text, check_text, watch_text}
-use Rattle.clk_trace.specs.declared.trace.WatchTrace.{WatchTrace}
+use Rattle.clk_lawful.specs.declared.trace.WatchTrace.{WatchTrace}
 use Rattle.clk_trace.proofs.Texts.{text_of-both, text_of-flat, text_of-map, text_of-from}
 
 demotion_text_is : (lifts : List Step) (n : ℕ) (d : Demotion) → text_of (demotion_lines lifts d) ≡ demotion_text lifts n d

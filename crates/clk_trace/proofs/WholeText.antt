@@ -3,12 +3,12 @@ use Rattle.std.proofs.Common.{◌≡◌, ℕ, List, [], ◌∷◌, ◌++◌, map
 use Rattle.clk_base.specs.Text.{lines_from}
 use Rattle.clk_base.specs.Walk.{flat_from}
 use Rattle.clk_record.specs.declared.stable.Demotion.{Demotion}
-use Rattle.clk_trace.specs.Lines.{Line, line_text, text_of}
-use Rattle.clk_trace.specs.Lines.Line.{Head, Epoch, Start, Demoted, End}
-use Rattle.clk_trace.specs.Checks.{listed}
-use Rattle.clk_trace.specs.TraceText.{boot_line, up_lines, word_lines, thread_lines, watch_lines, history_lines, text}
+use Rattle.clk_lawful.specs.Lines.{Line, line_text, text_of}
+use Rattle.clk_lawful.specs.Lines.Line.{Head, Epoch, Start, Demoted, End}
+use Rattle.clk_lawful.specs.Checks.{listed}
+use Rattle.clk_lawful.specs.TraceText.{boot_line, up_lines, word_lines, thread_lines, watch_lines, history_lines, text}
 use Rattle.clk_trace.specs.WriterParts.{boot_text, up_text, boot_demotion_text, word_text, thread_text, history_text, watch_text}
-use Rattle.clk_trace.specs.declared.trace.Trace.{Trace}
+use Rattle.clk_lawful.specs.declared.trace.Trace.{Trace}
 use Rattle.clk_trace.proofs.Texts.{text_of-both, text_of-map, ups_text, words_text, threads_text, histories_text}
 use Rattle.clk_trace.proofs.WatchTexts.{watches_text}
 

@@ -9,13 +9,13 @@ use Rattle.clk_record.specs.declared.attempt.Attempt.{Attempt}
 use Rattle.clk_record.specs.declared.up.CpuUp.{CpuUp}
 use Rattle.clk_record.specs.declared.stable.StableStamp.{StableStamp}
 use Rattle.clk_record.specs.declared.stable.Demotion.{Demotion}
-use Rattle.clk_trace.specs.Lines.{step_line, line_text}
-use Rattle.clk_trace.specs.Lines.Line.{Run, Turn, Demoted, Word, Thread, Shown, Watchdog, Checking, Attempted, Judged, Stamped, Current, History}
-use Rattle.clk_trace.specs.Checks.{Visit, Check, listed, checks_of}
-use Rattle.clk_trace.specs.TraceText.{boot_line, done_line, cpu_line, lift_line}
-use Rattle.clk_trace.specs.declared.event.Event.{Event}
-use Rattle.clk_trace.specs.declared.trace.HistoryStep.{HistoryStep}
-use Rattle.clk_trace.specs.declared.trace.WatchTrace.{WatchTrace}
+use Rattle.clk_lawful.specs.Lines.{step_line, line_text}
+use Rattle.clk_lawful.specs.Lines.Line.{Run, Turn, Demoted, Word, Thread, Shown, Watchdog, Checking, Attempted, Judged, Stamped, Current, History}
+use Rattle.clk_lawful.specs.Checks.{Visit, Check, listed, checks_of}
+use Rattle.clk_lawful.specs.TraceText.{boot_line, done_line, cpu_line, lift_line}
+use Rattle.clk_lawful.specs.declared.event.Event.{Event}
+use Rattle.clk_lawful.specs.declared.trace.HistoryStep.{HistoryStep}
+use Rattle.clk_lawful.specs.declared.trace.WatchTrace.{WatchTrace}
 
 abbrev pub event_text : ℕ → Event → List ℕ
 event_text n e = line_text (Shown e)

@@ -1,11 +1,10 @@
 //! The histories of the clock words, found from the events of all threads and the lifts of the watchdog.
 ghost use Rattle.std.specs.Prelude.{◌≡◌, ◌^◌, ◌<◌, [], ◌∷◌, length, All, if◌then◌else◌, map, nat_eq, slice_index_or, IsPermutation, IsSorted};
-ghost use Rattle.clk_trace.specs.Filling.{Gained, Keeps, HasRoomFor, NamesWordsBelow, HasWordsBelow, MayFill, lines_on, lines_left, steps_left, Sorts, AreSorted, FillsHistories};
-ghost use Rattle.clk_trace.specs.Standing.{lifts_by};
-ghost use Rattle.clk_trace.specs.WordHistory.{steps_of_kind, all_steps, placed_lift, lift_steps, history_cmp};
+ghost use Rattle.clk_lawful.specs.Filling.{Gained, Keeps, HasRoomFor, NamesWordsBelow, HasWordsBelow, MayFill, lines_on, lines_left, steps_left, Sorts, AreSorted, FillsHistories};
+ghost use Rattle.clk_lawful.specs.Standing.{lifts_by};
+ghost use Rattle.clk_lawful.specs.WordHistory.{steps_of_kind, all_steps, placed_lift, lift_steps, history_cmp};
 
-use crate::event::{Event, EventKind};
-use crate::trace::{HistoryStep, Trace, WatchTrace};
+use clk_lawful::{Event, EventKind, HistoryStep, Trace, WatchTrace};
 use clk_num::{List, above};
 use clk_record::Step;
 

@@ -7,22 +7,15 @@
 //! an [`Out`], as that of a trace does.
 #![tactic(auto)]
 
-mod counting;
-mod event;
 mod gather;
-mod laws;
 mod out;
 mod row;
 mod sink;
-mod trace;
 mod write;
 mod write_watch;
 
-pub use counting::{steps_are_counted, tickets_are_counted};
-pub use event::{Event, EventKind};
+pub use clk_lawful::{Event, EventKind, HistoryStep, Trace, WatchTrace, sorted_steps_are_a_chain, steps_are_counted, tickets_are_counted};
 pub use gather::histories;
-pub use laws::sorted_steps_are_a_chain;
 pub use out::{Out, Part, WriteFault};
 pub use sink::{Failed, Sink};
-pub use trace::{HistoryStep, Trace, WatchTrace};
 pub use write::write_trace;

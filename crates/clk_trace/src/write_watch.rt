@@ -3,16 +3,16 @@ ghost use Rattle.std.specs.Prelude.{◌≡◌, ◌+◌, ◌-◌, ◌%◌, ◌<�
 ghost use Rattle.std.specs.Fmt.{signed_decimal};
 ghost use Rattle.clk_base.specs.Text.{line, lines_from};
 ghost use Rattle.clk_trace.specs.Taking.{Takes, progress_of};
-ghost use Rattle.clk_trace.specs.Lines.{line_text};
-ghost use Rattle.clk_trace.specs.Lines.Line.{Demoted, Checking, Judged};
-ghost use Rattle.clk_trace.specs.Checks.{listed, first_of, visit_by, checks_of};
-ghost use Rattle.clk_trace.specs.WritableWatch.{IsSized, MayWriteWatch, visits_after};
+ghost use Rattle.clk_lawful.specs.Lines.{line_text};
+ghost use Rattle.clk_lawful.specs.Lines.Line.{Demoted, Checking, Judged};
+ghost use Rattle.clk_lawful.specs.Checks.{listed, first_of, visit_by, checks_of};
+ghost use Rattle.clk_lawful.specs.WritableWatch.{IsSized, MayWriteWatch, visits_after};
 ghost use Rattle.clk_trace.specs.WriterParts.{attempt_text, stamp_text, lift_text, demotion_text, visit_text, check_text, watch_text};
 
 use crate::out::Out;
 use crate::out::Part::{Name, Signed, Unsigned};
 use crate::sink::Sink;
-use crate::trace::{Trace, WatchTrace};
+use clk_lawful::{Trace, WatchTrace};
 use clk_record::{Attempt, Demotion, Outcome, SourceRecord, StableStamp, Step};
 
 /// What the watchdog left, if there is one.

@@ -13,7 +13,7 @@ use Rattle.clk_record.specs.declared.watched.Watched.{Watched}
 use Rattle.clk_record.specs.Fold.{is_good, is_lost, pair_of, last_of, attempts_of, after_record, IsVisit, AreVisits}
 use Rattle.clk_watch.proofs.Growing.{length_left}
 use Rattle.clk_watch.proofs.Staying.{demoted_stays}
-use Rattle.clk_trace.specs.Checks.{Visit}
+use Rattle.clk_lawful.specs.Checks.{Visit}
 use Rattle.clk_watcher.specs.VisitsKept.{AreCalled, demoted_after}
 use Rattle.clk_watcher.proofs.OneTsc.{both_true, false_by, tsc_once}
 

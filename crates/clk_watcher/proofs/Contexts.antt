@@ -17,8 +17,8 @@ use Rattle.clk_record.specs.declared.stable.StableStamp.{StableStamp}
 use Rattle.clk_record.specs.declared.stable.Demotion.{Demotion}
 use Rattle.clk_demote.specs.Context.{site_of, IsUnlifted, Keeps}
 use Rattle.clk_record.specs.Demotions.{offset_by}
-use Rattle.clk_trace.specs.Checks.{listed}
-use Rattle.clk_trace.specs.declared.trace.WatchTrace.{WatchTrace}
+use Rattle.clk_lawful.specs.Checks.{listed}
+use Rattle.clk_lawful.specs.declared.trace.WatchTrace.{WatchTrace}
 use Rattle.clk_worker.specs.declared.shared.Shared.{Shared}
 use Rattle.clk_watcher.specs.Calling.{Context, known, HasPartsOf, IsContext, Stands, IsStable}
 use Rattle.clk_watcher.specs.Making.{site_at, has, SeatsServe}

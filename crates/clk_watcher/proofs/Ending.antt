@@ -7,12 +7,12 @@ use Rattle.std.proofs.lemmas.List.Elements.{All-nil, All-cons}
 use Rattle.clk_base.specs.Walk.{EachFrom}
 use Rattle.clk_record.specs.Fold.{source_at_first, at_first, AreVisits}
 use Rattle.clk_record.specs.ChecksAsked.{checks_asked}
-use Rattle.clk_trace.specs.Checks.{Visit, Check, listed, visits_of, checks_of}
-use Rattle.clk_trace.specs.Checks.{checks_from, visits_from}
-use Rattle.clk_trace.specs.RightReadings.{NeverFall}
-use Rattle.clk_trace.specs.WritableWatch.{IsSized}
-use Rattle.clk_trace.specs.Watchdog.{IsPass, NamesAll, AreChecks, AreCalledFor}
-use Rattle.clk_trace.specs.declared.trace.WatchTrace.{WatchTrace}
+use Rattle.clk_lawful.specs.Checks.{Visit, Check, listed, visits_of, checks_of}
+use Rattle.clk_lawful.specs.Checks.{checks_from, visits_from}
+use Rattle.clk_lawful.specs.RightReadings.{NeverFall}
+use Rattle.clk_lawful.specs.WritableWatch.{IsSized}
+use Rattle.clk_lawful.specs.Watchdog.{IsPass, NamesAll, AreChecks, AreCalledFor}
+use Rattle.clk_lawful.specs.declared.trace.WatchTrace.{WatchTrace}
 use Rattle.clk_worker.specs.declared.shared.Shared.{Shared}
 use Rattle.clk_watcher.specs.Checking.{Watches, HasWatched}
 use Rattle.clk_watcher.specs.VisitsKept.{AreCalled, ends_from, visits_in}

@@ -2,8 +2,8 @@
 use Rattle.std.proofs.Common.{◌≡◌, ℕ, Some, None, [], ◌∷◌, ◌++◌, refl, sym, ◌∙◌, ap, arith, append-nil}
 use Rattle.std.specs.Prelude.{Bool, true, false}
 use Rattle.clk_record.specs.declared.visit.SourceRecord.{SourceRecord}
-use Rattle.clk_trace.specs.Checks.{listed}
-use Rattle.clk_trace.specs.declared.trace.WatchTrace.{WatchTrace}
+use Rattle.clk_lawful.specs.Checks.{listed}
+use Rattle.clk_lawful.specs.declared.trace.WatchTrace.{WatchTrace}
 use Rattle.clk_watcher.specs.Calling.{Context, known, IsStable, Follows, Stamps, Demotes}
 
 pub follows_stamp : (cpu check : ℕ) (r : SourceRecord) (stable : Bool) (v w : Context) (a b : WatchTrace) → stable ≡ true → r.tsc_current ≡ true → r.tsc_demoted ≡ false

@@ -15,9 +15,9 @@ use Rattle.clk_record.specs.Fold.{is_good, is_lost, at_first, source_at_first, a
 use Rattle.clk_watch.proofs.Staying.{demoted_stays}
 use Rattle.clk_record.specs.declared.stable.StableStamp.{StableStamp}
 use Rattle.clk_record.specs.declared.stable.Demotion.{Demotion}
-use Rattle.clk_trace.specs.Checks.{Visit, listed, visits_from, visits_of}
-use Rattle.clk_trace.specs.Watchdog.{AreChecks, AreCalledFor}
-use Rattle.clk_trace.specs.declared.trace.WatchTrace.{WatchTrace}
+use Rattle.clk_lawful.specs.Checks.{Visit, listed, visits_from, visits_of}
+use Rattle.clk_lawful.specs.Watchdog.{AreChecks, AreCalledFor}
+use Rattle.clk_lawful.specs.declared.trace.WatchTrace.{WatchTrace}
 use Rattle.clk_watcher.proofs.LawStamps.{stamps_of}
 use Rattle.clk_watcher.proofs.OneTsc.{both_true, false_by, tsc_once}
 

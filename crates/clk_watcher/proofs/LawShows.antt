@@ -17,9 +17,9 @@ use Rattle.clk_record.specs.declared.stable.Demotion.{Demotion}
 use Rattle.clk_demote.specs.Context.{Site, Known}
 use Rattle.clk_record.specs.Demotions.{IsDemotion}
 use Rattle.clk_demote.specs.Lifts.{lifts_of}
-use Rattle.clk_trace.specs.Checks.{Visit, listed, visits_of, checks_of}
-use Rattle.clk_trace.specs.Demoted.{HasOffset, last_stamp}
-use Rattle.clk_trace.specs.declared.trace.WatchTrace.{WatchTrace}
+use Rattle.clk_lawful.specs.Checks.{Visit, listed, visits_of, checks_of}
+use Rattle.clk_lawful.specs.Demoted.{HasOffset, last_stamp}
+use Rattle.clk_lawful.specs.declared.trace.WatchTrace.{WatchTrace}
 use Rattle.clk_watcher.specs.Checking.{KeepsLifts, HasWatched}
 use Rattle.clk_watcher.specs.Shown.{IsLift, DemotedShows, WatchedIsShown}
 use Rattle.clk_watcher.proofs.LawBlocks.{watches_gain, watches_rise}

@@ -25,9 +25,9 @@ use Rattle.clk_watch.proofs.Growing.{grow_after}
 use Rattle.clk_record.specs.declared.stable.Demotion.{Demotion}
 use Rattle.clk_demote.specs.Context.{Site, Known}
 use Rattle.clk_demote.specs.Lifts.{lifts_of}
-use Rattle.clk_trace.specs.Checks.{Visit, Check, listed}
-use Rattle.clk_trace.specs.Watchdog.{IsPass}
-use Rattle.clk_trace.specs.declared.trace.WatchTrace.{WatchTrace}
+use Rattle.clk_lawful.specs.Checks.{Visit, Check, listed}
+use Rattle.clk_lawful.specs.Watchdog.{IsPass}
+use Rattle.clk_lawful.specs.declared.trace.WatchTrace.{WatchTrace}
 use Rattle.clk_worker.specs.declared.shared.Shared.{Shared}
 use Rattle.clk_watcher.specs.Checking.{WatchesCheck, KeepsLifts}
 use Rattle.clk_watcher.specs.VisitsKept.{AreCalled, AreNamed, lifts_in, KeepsDemotion, ends_from, visits_in, KeepsChecks}

@@ -18,9 +18,9 @@ use Rattle.clk_record.specs.Fold.{is_good, is_lost, ends_check}
 use Rattle.clk_watch.specs.Watching.{Watching, Checks}
 use Rattle.clk_demote.specs.Context.{site_of, IsOfMachine, Keeps}
 use Rattle.clk_demote.specs.Shows.{adjust_at}
-use Rattle.clk_trace.specs.Checks.{Visit, listed}
-use Rattle.clk_trace.specs.Watchdog.{IsPass}
-use Rattle.clk_trace.specs.declared.trace.WatchTrace.{WatchTrace}
+use Rattle.clk_lawful.specs.Checks.{Visit, listed}
+use Rattle.clk_lawful.specs.Watchdog.{IsPass}
+use Rattle.clk_lawful.specs.declared.trace.WatchTrace.{WatchTrace}
 use Rattle.clk_watcher.specs.Checking.{WatchesVisits}
 use Rattle.clk_watcher.specs.VisitsKept.{KeepsVisits, KeepsDemotion, lifts_in}
 use Rattle.clk_watcher.specs.Calling.{Context, known, Stands, IsStable, stamps_at, visit_tickets, HasRoomFor, UsesFor, Follows, MakesVisits, MakesVisit, MakesPass}

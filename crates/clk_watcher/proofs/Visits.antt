@@ -10,8 +10,8 @@ use Rattle.clk_words.specs.declared.view.View.{View}
 use Rattle.clk_record.specs.declared.stable.StableStamp.{StableStamp}
 use Rattle.clk_record.specs.declared.stable.Demotion.{Demotion}
 use Rattle.clk_demote.specs.Context.{Site, Known}
-use Rattle.clk_trace.specs.Checks.{Visit, Check, listed}
-use Rattle.clk_trace.specs.declared.trace.WatchTrace.{WatchTrace}
+use Rattle.clk_lawful.specs.Checks.{Visit, Check, listed}
+use Rattle.clk_lawful.specs.declared.trace.WatchTrace.{WatchTrace}
 use Rattle.clk_watcher.specs.Checking.{StampsAt, DemotesAt, WatchesVisit, WatchesVisits, WatchesCheck, Watches}
 use Rattle.clk_watcher.specs.VisitsKept.{AreCalled, AreNamed, KeepsVisits, lifts_in, demoted_after, KeepsDemotion, KeepsRest}
 

@@ -18,9 +18,9 @@ use Rattle.clk_record.specs.declared.stable.Demotion.{Demotion}
 use Rattle.clk_demote.specs.Context.{Known, site_of, known_of, IsSeated, IsOfMachine, IsUsable, Keeps}
 use Rattle.clk_demote.specs.Lifts.{lifts_of}
 use Rattle.clk_demote.specs.Shows.{ShowsStableStamp, ShowsDemotion}
-use Rattle.clk_trace.specs.Checks.{Visit, listed, pause_of}
-use Rattle.clk_trace.specs.Watchdog.{IsPass}
-use Rattle.clk_trace.specs.declared.trace.WatchTrace.{WatchTrace}
+use Rattle.clk_lawful.specs.Checks.{Visit, listed, pause_of}
+use Rattle.clk_lawful.specs.Watchdog.{IsPass}
+use Rattle.clk_lawful.specs.declared.trace.WatchTrace.{WatchTrace}
 use Rattle.clk_worker.specs.declared.shared.Shared.{Shared}
 use Rattle.clk_watcher.specs.Checking.{StampsAt, DemotesAt, WatchesVisits}
 use Rattle.clk_watcher.specs.VisitsKept.{KeepsVisits, KeepsDemotion, KeepsRest, lifts_in}

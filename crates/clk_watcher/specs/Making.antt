@@ -18,9 +18,9 @@ use Rattle.clk_record.specs.Fold.{at_first, ratings_of, IsCurrent, AreVisits}
 use Rattle.clk_watch.specs.Watching.{kept_of}
 use Rattle.clk_demote.specs.Context.{Site, Known, IsUnlifted}
 use Rattle.clk_record.specs.Demotions.{offset_by}
-use Rattle.clk_trace.specs.Checks.{Check, pause_of}
-use Rattle.clk_trace.specs.Watchdog.{IsPass}
-use Rattle.clk_trace.specs.declared.trace.WatchTrace.{WatchTrace}
+use Rattle.clk_lawful.specs.Checks.{Check, pause_of}
+use Rattle.clk_lawful.specs.Watchdog.{IsPass}
+use Rattle.clk_lawful.specs.declared.trace.WatchTrace.{WatchTrace}
 use Rattle.clk_worker.specs.declared.shared.Shared.{Shared}
 use Rattle.clk_watcher.specs.Checking.{WatchesCheck, Watches, KeepsLifts, HasWatched}
 use Rattle.clk_watcher.specs.VisitsKept.{KeepsVisits, KeepsDemotion, KeepsChecks}

@@ -18,10 +18,10 @@ use Rattle.clk_demote.specs.Context.{Site, Known}
 use Rattle.clk_record.specs.Demotions.{IsDemotion}
 use Rattle.clk_demote.specs.Shows.{adjust_at}
 use Rattle.clk_demote.specs.Stamping.{epoch_at}
-use Rattle.clk_trace.specs.Checks.{pause_of, watch_blocks, checks_of}
-use Rattle.clk_trace.specs.Demoted.{HasOffset, last_stamp}
-use Rattle.clk_trace.specs.RightReadings.{check_cpu, named_in, NeverFall, IsRightVisit}
-use Rattle.clk_trace.specs.declared.trace.WatchTrace.{WatchTrace}
+use Rattle.clk_lawful.specs.Checks.{pause_of, watch_blocks, checks_of}
+use Rattle.clk_lawful.specs.Demoted.{HasOffset, last_stamp}
+use Rattle.clk_lawful.specs.RightReadings.{check_cpu, named_in, NeverFall, IsRightVisit}
+use Rattle.clk_lawful.specs.declared.trace.WatchTrace.{WatchTrace}
 use Rattle.clk_watcher.specs.Checking.{HasWatched}
 
 -- the lift of a word in this check by a demotion that opens here, where words opened at o

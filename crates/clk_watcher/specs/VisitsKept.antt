@@ -8,9 +8,9 @@ use Rattle.clk_machine.specs.Plan.{Plan}
 use Rattle.clk_record.specs.Fold.{at_first, watch_after, ratings_of, IsCurrent, AreVisits}
 use Rattle.clk_record.specs.declared.stable.Demotion.{Demotion}
 use Rattle.clk_demote.specs.Lifts.{lifts_of}
-use Rattle.clk_trace.specs.Checks.{Visit, Check, listed}
-use Rattle.clk_trace.specs.Watchdog.{IsPass}
-use Rattle.clk_trace.specs.declared.trace.WatchTrace.{WatchTrace}
+use Rattle.clk_lawful.specs.Checks.{Visit, Check, listed}
+use Rattle.clk_lawful.specs.Watchdog.{IsPass}
+use Rattle.clk_lawful.specs.declared.trace.WatchTrace.{WatchTrace}
 
 -- ---- visits
 

@@ -4,7 +4,7 @@ ghost use Rattle.clk_machine.specs.Plan.{cpu_count};
 ghost use Rattle.clk_machine.specs.Time.{source_plan_at};
 ghost use Rattle.clk_record.specs.Fold.{ends_check as ends_check_of};
 ghost use Rattle.clk_record.specs.ChecksAsked.{checks_asked};
-ghost use Rattle.clk_trace.specs.Checks.{pause_of};
+ghost use Rattle.clk_lawful.specs.Checks.{pause_of};
 ghost use Rattle.clk_demote.specs.Context.{IsSeated};
 ghost use Rattle.clk_watcher.specs.Calling.{Stands, IsStable, HasRoomFor, Follows, Stamps, Demotes, MakesVisit, MakesPass, Pauses, EndsCheck};
 ghost use Rattle.clk_watcher.specs.Making.{SeatsServe, IsStable as IsStableAt, HasEnough, MakesAt};
@@ -14,7 +14,7 @@ use crate::parts::{WatchParts, context, parts_of};
 use clk_demote::{WatchCtx, demote, stable_stamp};
 use clk_latch::Latch;
 use clk_machine::CpuCounter;
-use clk_trace::WatchTrace;
+use clk_lawful::WatchTrace;
 use clk_record::{Outcome, SourceRecord};
 use clk_worker::Shared;
 

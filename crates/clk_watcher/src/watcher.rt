@@ -7,7 +7,7 @@ use crate::calls::make_at;
 use crate::numbers::checks;
 use crate::parts::WatchParts;
 use clk_machine::Gate;
-use clk_trace::WatchTrace;
+use clk_lawful::WatchTrace;
 use clk_worker::Shared;
 use std::marker::Model;
 

@@ -17,7 +17,7 @@ use Rattle.clk_words.specs.Laws.{WasPut}
 use Rattle.clk_record.specs.Targets.{target}
 use Rattle.clk_words.proofs.Holding.{held_put}
 use Rattle.clk_words.proofs.Replay.{had_here}
-use Rattle.clk_trace.specs.LegalHistory.{is_coupling}
+use Rattle.clk_lawful.specs.LegalHistory.{is_coupling}
 
 -- what the word w got, and what any word got by another step than a coupling, and the opening
 abbrev pub held_in : ℤ → List Step → ℕ → List ℤ

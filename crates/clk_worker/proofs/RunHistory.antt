@@ -19,11 +19,11 @@ use Rattle.clk_words.specs.Bounds.{IsClock}
 use Rattle.clk_words.specs.Histories.{opens_at, NamesHeld, Follows, AllFollow, IsGlobalHistory, steps_on, IsChain}
 use Rattle.clk_record.specs.Targets.{target}
 use Rattle.clk_words.proofs.Replay.{clock_near, AreClocks, opening_range, range_more, is_chain}
-use Rattle.clk_trace.specs.LegalHistory.{NamesSource, IsLegalHistory}
-use Rattle.clk_trace.specs.SortedHistory.{GoesUp, change_of}
-use Rattle.clk_trace.specs.WordHistory.{Placed, line_of, placed_on, IsHistoryOf}
-use Rattle.clk_trace.specs.declared.trace.HistoryStep.{HistoryStep}
-use Rattle.clk_trace.proofs.Sorting.{sorted_chain}
+use Rattle.clk_lawful.specs.LegalHistory.{NamesSource, IsLegalHistory}
+use Rattle.clk_lawful.specs.SortedHistory.{GoesUp, change_of}
+use Rattle.clk_lawful.specs.WordHistory.{Placed, line_of, placed_on, IsHistoryOf}
+use Rattle.clk_lawful.specs.declared.trace.HistoryStep.{HistoryStep}
+use Rattle.clk_lawful.proofs.Sorting.{sorted_chain}
 use Rattle.clk_worker.proofs.RunBrought.{brings_step, held_here, held_brought}
 use Rattle.clk_worker.proofs.RunNamed.{NamesIn}
 use Rattle.clk_worker.proofs.RunOrders.{same_step, step_decides, Ordered, SameSums, ordered, same_kept, map_filter}

@@ -10,7 +10,7 @@ use Rattle.clk_record.specs.declared.step.Why.TheVariants.{Raise, Couple, Lift}
 use Rattle.clk_words.specs.Fronts.{Begins}
 use Rattle.clk_words.specs.Histories.{opens_at, value_after, HadValue, is_lift, IsInOrder, AllFollow, IsGlobalHistory}
 use Rattle.clk_words.proofs.Replay.{value_here, follow_back, had_here, had_more}
-use Rattle.clk_trace.specs.Standing.{lifted_from}
+use Rattle.clk_lawful.specs.Standing.{lifted_from}
 use Rattle.clk_worker.specs.Running.{HasPassed}
 
 -- a lift of this history left the word k at x

@@ -11,8 +11,8 @@ use Rattle.clk_record.specs.declared.step.Why.TheVariants.{Raise, Couple, Lift}
 use Rattle.clk_words.specs.Histories.{is_lift, NamesHeld, IsGlobalHistory}
 use Rattle.clk_record.specs.Targets.{target}
 use Rattle.clk_words.proofs.Holding.{each_follows}
-use Rattle.clk_trace.specs.LegalHistory.{ReachesTarget}
-use Rattle.clk_trace.specs.WordHistory.{placed_lift}
+use Rattle.clk_lawful.specs.LegalHistory.{ReachesTarget}
+use Rattle.clk_lawful.specs.WordHistory.{placed_lift}
 use Rattle.clk_worker.proofs.RunLifted.{IsLiftIn, stands}
 use Rattle.clk_worker.proofs.RunNamed.{NamesIn}
 use Rattle.clk_worker.proofs.RunSteps.{numbered}

@@ -14,12 +14,12 @@ use Rattle.clk_record.specs.LowerWord.{is_lower, lower_word}
 use Rattle.clk_words.proofs.Fronts.{begins_through}
 use Rattle.clk_words.proofs.Replay.{had_later}
 use Rattle.clk_local.specs.Context.{Site, Known}
-use Rattle.clk_trace.specs.Couples.{named_word, named_value}
-use Rattle.clk_trace.specs.Filling.{NamesWordsBelow}
-use Rattle.clk_trace.specs.WordHistory.{Placed, steps_of_kind, steps_from}
-use Rattle.clk_trace.specs.declared.event.Event.{Event}
-use Rattle.clk_trace.specs.declared.event.EventKind.{EventKind}
-use Rattle.clk_trace.specs.declared.event.EventKind.TheVariants.{Stable, Local, Couple, Stamp, Nothing, Update, Pause}
+use Rattle.clk_lawful.specs.Couples.{named_word, named_value}
+use Rattle.clk_lawful.specs.Filling.{NamesWordsBelow}
+use Rattle.clk_lawful.specs.WordHistory.{Placed, steps_of_kind, steps_from}
+use Rattle.clk_lawful.specs.declared.event.Event.{Event}
+use Rattle.clk_lawful.specs.declared.event.EventKind.{EventKind}
+use Rattle.clk_lawful.specs.declared.event.EventKind.TheVariants.{Stable, Local, Couple, Stamp, Nothing, Update, Pause}
 use Rattle.clk_worker.specs.Running.{Shows, ShowsCouple, Runs, at_call}
 use Rattle.clk_worker.proofs.RunKeeping.{IsHome, home_looked, home_next, step_seen, runs_grows}
 use Rattle.clk_worker.proofs.RunSteps.{couple_why}

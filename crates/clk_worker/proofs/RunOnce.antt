@@ -8,9 +8,9 @@ use Rattle.std.proofs.lemmas.List.Elements.{All-head, All-filter, filter_passes}
 use Rattle.std.proofs.lemmas.List.Sorted.{IsPermutation-refl, IsPermutation-trans, IsPermutation-append, IsPermutation-map, IsPermutation-filter_both}
 use Rattle.clk_base.specs.Walk.{EachFrom}
 use Rattle.clk_num.specs.Listed.{Listed}
-use Rattle.clk_trace.specs.Lines.{step_line}
-use Rattle.clk_trace.specs.WordHistory.{Placed, line_of, placed_on, IsHistoryOf}
-use Rattle.clk_trace.specs.declared.trace.HistoryStep.{HistoryStep}
+use Rattle.clk_lawful.specs.Lines.{step_line}
+use Rattle.clk_lawful.specs.WordHistory.{Placed, line_of, placed_on, IsHistoryOf}
+use Rattle.clk_lawful.specs.declared.trace.HistoryStep.{HistoryStep}
 
 -- the steps on other words than k
 abbrev steps_off : ℕ → List Placed → List Placed

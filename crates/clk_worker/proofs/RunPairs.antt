@@ -20,11 +20,11 @@ use Rattle.clk_words.proofs.Registers.{put_here, put_else, last_more}
 use Rattle.clk_machine.specs.declared.reading.RawReading.{RawReading}
 use Rattle.clk_local.specs.Context.{Site, Known}
 use Rattle.clk_local.specs.Shows.{ShowsRaised}
-use Rattle.clk_trace.specs.Stamps.{Pair, pair_after, NamesPair}
-use Rattle.clk_trace.specs.declared.event.Event.{Event}
-use Rattle.clk_trace.specs.declared.event.EventKind.{EventKind}
-use Rattle.clk_trace.specs.declared.event.EventKind.TheVariants.{Stable, Local, Stamp, Nothing, Update, Pause}
-use Rattle.clk_trace.specs.declared.event.EventKind.TheVariants as event
+use Rattle.clk_lawful.specs.Stamps.{Pair, pair_after, NamesPair}
+use Rattle.clk_lawful.specs.declared.event.Event.{Event}
+use Rattle.clk_lawful.specs.declared.event.EventKind.{EventKind}
+use Rattle.clk_lawful.specs.declared.event.EventKind.TheVariants.{Stable, Local, Stamp, Nothing, Update, Pause}
+use Rattle.clk_lawful.specs.declared.event.EventKind.TheVariants as event
 use Rattle.clk_worker.specs.Running.{Shows, ShowsLocal, Runs, at_call}
 use Rattle.clk_worker.proofs.RunKeeping.{IsHome, home_looked, home_next}
 use Rattle.clk_worker.proofs.RunParts.{MayHave, PartsBegin, parts_through, finds_begin, finds_part, finds_other, Lasts, runs_last, stamp_lasts, offset_lasts}

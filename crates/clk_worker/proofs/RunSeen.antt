@@ -23,10 +23,10 @@ use Rattle.clk_machine.specs.declared.reading.RawReading.{RawReading}
 use Rattle.clk_local.specs.Context.{Site, Known}
 use Rattle.clk_local.specs.Raising.{shown_on}
 use Rattle.clk_local.specs.Shows.{ShowsRaised}
-use Rattle.clk_trace.specs.SeenBefore.{Seen, seen_at, higher, seen_of, shown_by_kind, IsFoundAbove, IsAboveSeen, NeverFalls}
-use Rattle.clk_trace.specs.declared.event.Event.{Event}
-use Rattle.clk_trace.specs.declared.event.EventKind.{EventKind}
-use Rattle.clk_trace.specs.declared.event.EventKind.TheVariants.{Stable, Local, Couple, Stamp, Nothing, Update, Pause}
+use Rattle.clk_lawful.specs.SeenBefore.{Seen, seen_at, higher, seen_of, shown_by_kind, IsFoundAbove, IsAboveSeen, NeverFalls}
+use Rattle.clk_lawful.specs.declared.event.Event.{Event}
+use Rattle.clk_lawful.specs.declared.event.EventKind.{EventKind}
+use Rattle.clk_lawful.specs.declared.event.EventKind.TheVariants.{Stable, Local, Couple, Stamp, Nothing, Update, Pause}
 use Rattle.clk_worker.specs.Running.{Shows, ShowsLocal, ShowsCouple, Runs, at_call}
 use Rattle.clk_worker.proofs.RunKeeping.{Fixed, IsHome, home_stays, home_looked, home_next, offset_fixed, shows_fixed, shows_grows, step_seen, runs_grows}
 use Rattle.clk_worker.proofs.RunLifted.{StoodAt, stood_had, stood_passed, stood_before}

@@ -15,12 +15,12 @@ use Rattle.clk_record.specs.Targets.{target}
 use Rattle.clk_machine.specs.declared.reading.RawReading.{RawReading}
 use Rattle.clk_local.specs.Context.{Site, Known}
 use Rattle.clk_remote.specs.Coupling.{coupling, higher_value}
-use Rattle.clk_trace.specs.Couples.{named_word, named_value}
-use Rattle.clk_trace.specs.LegalHistory.{ReachesTarget}
-use Rattle.clk_trace.specs.WordHistory.{Placed, steps_of_kind, steps_from}
-use Rattle.clk_trace.specs.declared.event.Event.{Event}
-use Rattle.clk_trace.specs.declared.event.EventKind.{EventKind}
-use Rattle.clk_trace.specs.declared.event.EventKind.TheVariants.{Stable, Local, Couple, Stamp, Nothing, Update, Pause}
+use Rattle.clk_lawful.specs.Couples.{named_word, named_value}
+use Rattle.clk_lawful.specs.LegalHistory.{ReachesTarget}
+use Rattle.clk_lawful.specs.WordHistory.{Placed, steps_of_kind, steps_from}
+use Rattle.clk_lawful.specs.declared.event.Event.{Event}
+use Rattle.clk_lawful.specs.declared.event.EventKind.{EventKind}
+use Rattle.clk_lawful.specs.declared.event.EventKind.TheVariants.{Stable, Local, Couple, Stamp, Nothing, Update, Pause}
 use Rattle.clk_worker.specs.Running.{Shows, ShowsLocal, ShowsCouple, Runs, at_call}
 use Rattle.clk_worker.proofs.RunKeeping.{IsHome, home_looked, home_next}
 

@@ -18,17 +18,17 @@ use Rattle.clk_machine.specs.Records.{record_zero}
 use Rattle.clk_machine.specs.declared.reading.Published.{Published}
 use Rattle.clk_latch.specs.Calls.{last_of}
 use Rattle.clk_local.specs.Context.{Site, Known}
-use Rattle.clk_trace.specs.Couples.{CouplesLower}
-use Rattle.clk_trace.specs.Filling.{NamesWordsBelow}
-use Rattle.clk_trace.specs.LegalHistory.{ReachesTarget}
-use Rattle.clk_trace.specs.Modes.{Modes}
-use Rattle.clk_trace.specs.RightReadings.{IsRightKind}
-use Rattle.clk_trace.specs.SeenBefore.{NeverFalls}
-use Rattle.clk_trace.specs.Stamps.{Pair, stamp_of_kind, NamesPair, pair_after, first_numbers, NamesStamps, numbers_after}
-use Rattle.clk_trace.specs.TicketOrder.{blocks_of}
-use Rattle.clk_trace.specs.Updates.{updates_of, OwnsRecords, record_after, NamesLater, named_after}
-use Rattle.clk_trace.specs.WordHistory.{steps_from}
-use Rattle.clk_trace.specs.declared.event.Event.{Event}
+use Rattle.clk_lawful.specs.Couples.{CouplesLower}
+use Rattle.clk_lawful.specs.Filling.{NamesWordsBelow}
+use Rattle.clk_lawful.specs.LegalHistory.{ReachesTarget}
+use Rattle.clk_lawful.specs.Modes.{Modes}
+use Rattle.clk_lawful.specs.RightReadings.{IsRightKind}
+use Rattle.clk_lawful.specs.SeenBefore.{NeverFalls}
+use Rattle.clk_lawful.specs.Stamps.{Pair, stamp_of_kind, NamesPair, pair_after, first_numbers, NamesStamps, numbers_after}
+use Rattle.clk_lawful.specs.TicketOrder.{blocks_of}
+use Rattle.clk_lawful.specs.Updates.{updates_of, OwnsRecords, record_after, NamesLater, named_after}
+use Rattle.clk_lawful.specs.WordHistory.{steps_from}
+use Rattle.clk_lawful.specs.declared.event.Event.{Event}
 use Rattle.clk_worker.specs.Running.{Runs}
 use Rattle.clk_worker.proofs.RunBlocks.{runs_blocks}
 use Rattle.clk_worker.proofs.RunKeeping.{IsHome, fixed, runs_fixed}

@@ -20,11 +20,11 @@ use Rattle.clk_machine.specs.Plan.{count_of}
 use Rattle.clk_machine.specs.declared.script.Word.{Word}
 use Rattle.clk_machine.specs.declared.script.Word.TheVariants as word
 use Rattle.clk_local.specs.Context.{Site, Known}
-use Rattle.clk_trace.specs.Modes.{shows_percpu, reads_percpu, Modes, IsOfMode, turned_after}
-use Rattle.clk_trace.specs.ScriptEvents.{IsOwnReading, IsRemoteReading, IsTick, IsIdle, IsUpdate, IsPause, Calls, events_at, AreEventsOf}
-use Rattle.clk_trace.specs.declared.event.Event.{Event}
-use Rattle.clk_trace.specs.declared.event.EventKind.{EventKind}
-use Rattle.clk_trace.specs.declared.event.EventKind.TheVariants.{Stable, Local, Couple, Stamp, Nothing, Update, Pause}
+use Rattle.clk_lawful.specs.Modes.{shows_percpu, reads_percpu, Modes, IsOfMode, turned_after}
+use Rattle.clk_lawful.specs.ScriptEvents.{IsOwnReading, IsRemoteReading, IsTick, IsIdle, IsUpdate, IsPause, Calls, events_at, AreEventsOf}
+use Rattle.clk_lawful.specs.declared.event.Event.{Event}
+use Rattle.clk_lawful.specs.declared.event.EventKind.{EventKind}
+use Rattle.clk_lawful.specs.declared.event.EventKind.TheVariants.{Stable, Local, Couple, Stamp, Nothing, Update, Pause}
 use Rattle.clk_worker.specs.Running.{HasPassed, Shows, Runs, at_call}
 use Rattle.clk_worker.proofs.RunKeeping.{runs_grows}
 use Rattle.clk_worker.proofs.RunModes.{AreOfMode, runs_mode}

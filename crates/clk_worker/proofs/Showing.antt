@@ -23,11 +23,11 @@ use Rattle.clk_remote.specs.Shows.{mode_coupled, OnRemote, ShowsRemote}
 use Rattle.clk_remote.specs.declared.event.RemoteEvent.{RemoteEvent}
 use Rattle.clk_remote.specs.declared.event.RemoteEvent.TheVariants.{Coupled}
 use Rattle.clk_remote.specs.declared.event.RemoteEvent.TheVariants as remote
-use Rattle.clk_trace.specs.ScriptEvents.{IsOwnReading, IsRemoteReading, IsTick, IsIdle, events_at}
-use Rattle.clk_trace.specs.declared.event.Event.{Event}
-use Rattle.clk_trace.specs.declared.event.EventKind.{EventKind}
-use Rattle.clk_trace.specs.declared.event.EventKind.TheVariants.{Local, Couple, Stamp}
-use Rattle.clk_trace.specs.declared.event.EventKind.TheVariants as kind
+use Rattle.clk_lawful.specs.ScriptEvents.{IsOwnReading, IsRemoteReading, IsTick, IsIdle, events_at}
+use Rattle.clk_lawful.specs.declared.event.Event.{Event}
+use Rattle.clk_lawful.specs.declared.event.EventKind.{EventKind}
+use Rattle.clk_lawful.specs.declared.event.EventKind.TheVariants.{Local, Couple, Stamp}
+use Rattle.clk_lawful.specs.declared.event.EventKind.TheVariants as kind
 use Rattle.clk_worker.specs.Running.{at_call, IsSound, kinds_of_why, kinds_of_step, kinds_of_reading, kinds_of_tick, HasPassed, HasLooked, Runs}
 use Rattle.clk_worker.specs.Calling.{kinds_of_remote, SpendsAtMost}
 use Rattle.clk_worker.proofs.Sounding.{OwnsLatch, same_sound, reading_sound, stamp_sound, same_latch, reading_latch, stamp_latch}

@@ -13,9 +13,9 @@ use Rattle.clk_machine.specs.Limits.{IsWithinLimits}
 use Rattle.clk_machine.specs.Records.{above_base}
 use Rattle.clk_machine.specs.Tickets.{tickets_of}
 use Rattle.clk_machine.specs.declared.script.Word.{Word}
-use Rattle.clk_trace.specs.ScriptEvents.{Calls, events_at, AreEventsOf}
-use Rattle.clk_trace.specs.declared.event.Event.{Event}
-use Rattle.clk_trace.specs.declared.event.EventKind.{EventKind}
+use Rattle.clk_lawful.specs.ScriptEvents.{Calls, events_at, AreEventsOf}
+use Rattle.clk_lawful.specs.declared.event.Event.{Event}
+use Rattle.clk_lawful.specs.declared.event.EventKind.{EventKind}
 use Rattle.clk_worker.specs.Running.{IsSound, OwnsClock, Runs}
 use Rattle.clk_worker.specs.Calling.{Context, site_at, has, HasSeatsOf, IsContext, updates_in, Makes}
 use Rattle.clk_worker.specs.declared.shared.Shared.{Shared}

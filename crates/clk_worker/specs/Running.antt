@@ -18,10 +18,10 @@ use Rattle.clk_local.specs.declared.events.Reading.TheVariants.{Stable, PerCpu}
 use Rattle.clk_local.specs.declared.events.TickEvent.{TickEvent}
 use Rattle.clk_local.specs.declared.events.TickEvent.TheVariants.{Nothing, Ticked}
 use Rattle.clk_remote.specs.Shows.{ShowsCoupling}
-use Rattle.clk_trace.specs.declared.event.Event.{Event}
-use Rattle.clk_trace.specs.declared.event.EventKind.{EventKind}
-use Rattle.clk_trace.specs.declared.event.EventKind.TheVariants.{Local, Couple, Stamp, Update, Pause}
-use Rattle.clk_trace.specs.declared.event.EventKind.TheVariants as kind
+use Rattle.clk_lawful.specs.declared.event.Event.{Event}
+use Rattle.clk_lawful.specs.declared.event.EventKind.{EventKind}
+use Rattle.clk_lawful.specs.declared.event.EventKind.TheVariants.{Local, Couple, Stamp, Update, Pause}
+use Rattle.clk_lawful.specs.declared.event.EventKind.TheVariants as kind
 
 -- where the thread makes its call of this number
 abbrev pub at_call : Site → ℕ → Site

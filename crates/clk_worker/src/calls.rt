@@ -14,7 +14,7 @@ use clk_local::{Ctx, IdleEvent, idle, local, tick};
 use clk_machine::Word;
 use clk_num::List;
 use clk_remote::remote;
-use clk_trace::{Event, EventKind};
+use clk_lawful::{Event, EventKind};
 
 /// Makes word `m` of the thread's script, in a context of the thread at any call.
 #[inline(always)]

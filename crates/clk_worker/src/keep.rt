@@ -1,6 +1,6 @@
 //! How the answers of calls are kept as events.
 ghost use Rattle.std.specs.Prelude.{[], ◌∷◌, ◌≤◌};
-ghost use Rattle.clk_trace.specs.declared.event.EventKind.TheVariants.{Stable, Couple};
+ghost use Rattle.clk_lawful.specs.declared.event.EventKind.TheVariants.{Stable, Couple};
 ghost use Rattle.clk_worker.specs.Running.{kinds_of_step, kinds_of_reading, kinds_of_tick};
 ghost use Rattle.clk_worker.specs.Calling.{kinds_of_remote, KeepsEvents};
 
@@ -8,7 +8,7 @@ use clk_local::{Reading, TickEvent};
 use clk_machine::RawReading;
 use clk_num::List;
 use clk_remote::RemoteEvent;
-use clk_trace::{Event, EventKind};
+use clk_lawful::{Event, EventKind};
 use clk_record::{Step, Why};
 
 /// Keeps one event.

@@ -7,7 +7,7 @@ use crate::own::{Own, Post, context, own_of};
 use crate::shared::Shared;
 use clk_machine::Gate;
 use clk_num::List;
-use clk_trace::{Event, EventKind};
+use clk_lawful::{Event, EventKind};
 use std::marker::Model;
 
 /// One thread of a run: its seats, the place in its script, and its events so far.

@@ -1,6 +1,6 @@
 use Rattle.std.proofs.Common.{refl, sym, ◌∙◌}
 use Rattle.clk_machine.specs.Plan.{threads_of}
-use Rattle.clk_trace.proofs.CountingLaws.{counts_tickets, counts_steps}
+use Rattle.clk_lawful.proofs.CountingLaws.{counts_tickets, counts_steps}
 use Rattle.clk_make.specs.Made.{made}
 use Rattle.clk_make.proofs.Lists.{zip_length}
 use Rattle.clk_make.proofs.Threading.{threads_count, words_are, tickets_are, steps_are, drawn_are}

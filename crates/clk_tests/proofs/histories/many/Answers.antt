@@ -4,12 +4,12 @@ use Rattle.std.specs.Option.{IfSome}
 use Rattle.std.proofs.lemmas.List.Elements.{All-nil, All-weaker}
 use Rattle.clk_num.specs.Listed.{Listed}
 use Rattle.clk_record.specs.declared.step.Step.{Step}
-use Rattle.clk_trace.specs.Filling.{NamesWordsBelow, HasWordsBelow, MayFill}
-use Rattle.clk_trace.specs.Standing.{lifts_by}
-use Rattle.clk_trace.specs.WordHistory.{steps_of}
-use Rattle.clk_trace.specs.declared.event.Event.{Event}
-use Rattle.clk_trace.specs.declared.trace.Trace.{Trace}
-use Rattle.clk_trace.proofs.Few.{few_lines, few_in_all, step_count}
+use Rattle.clk_lawful.specs.Filling.{NamesWordsBelow, HasWordsBelow, MayFill}
+use Rattle.clk_lawful.specs.Standing.{lifts_by}
+use Rattle.clk_lawful.specs.WordHistory.{steps_of}
+use Rattle.clk_lawful.specs.declared.event.Event.{Event}
+use Rattle.clk_lawful.specs.declared.trace.Trace.{Trace}
+use Rattle.clk_lawful.proofs.Few.{few_lines, few_in_all, step_count}
 use Rattle.clk_tests.proofs.histories.many.Goals as goal
 
 none_twice : IsDistinct nat_eq []

@@ -1,6 +1,6 @@
 use Rattle.std.proofs.Common.{◌≡◌, ◌+◌, ◌≤◌, length}
 use Rattle.std.specs.List.{All}
-use Rattle.clk_trace.specs.Filling.{NamesWordsBelow}
+use Rattle.clk_lawful.specs.Filling.{NamesWordsBelow}
 use Rattle.clk_tests.proofs.histories.many_threads.Given as goal
 
 abbrev pub invariant-loop-thread : goal.invariant-loop-thread

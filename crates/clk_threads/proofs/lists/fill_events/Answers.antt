@@ -1,7 +1,7 @@
 use Rattle.std.proofs.Common.{◌*◌, ◌<◌, List, [], ◌∷◌, ◌++◌, length, map, take, sym, ap, ◌∙◌, arith, rules}
 use Rattle.clk_num.specs.Listed.{Listed}
 use Rattle.clk_machine.specs.Plan.{threads_of, thread_at}
-use Rattle.clk_trace.specs.declared.event.Event.{Event}
+use Rattle.clk_lawful.specs.declared.event.Event.{Event}
 use Rattle.clk_threads.specs.Preparing.{no_events}
 use Rattle.clk_threads.proofs.Filling.{is_empty}
 use Rattle.clk_threads.proofs.Sharing.{map_more}

@@ -1,6 +1,6 @@
 use Rattle.std.proofs.Common.{List, [], ◌∷◌, ◌++◌, sym, ap, ◌∙◌, arith}
 use Rattle.clk_num.specs.Listed.{Listed}
-use Rattle.clk_trace.specs.declared.trace.HistoryStep.{HistoryStep}
+use Rattle.clk_lawful.specs.declared.trace.HistoryStep.{HistoryStep}
 use Rattle.clk_threads.specs.Preparing.{steps_room, histories_below}
 use Rattle.clk_threads.proofs.Filling.{is_empty, histories_next}
 use Rattle.clk_threads.proofs.lists.fill_histories.Goals as goal

@@ -1,5 +1,5 @@
 use Rattle.std.proofs.Common.{sym, subst}
-use Rattle.clk_trace.specs.LawfulTrace.{IsLawful}
+use Rattle.clk_lawful.specs.LawfulTrace.{IsLawful}
 use Rattle.clk_threads.specs.Parts.{Parts, AreBack}
 use Rattle.clk_threads.proofs.Closing.{seen_as, closes, ends, writable}
 use Rattle.clk_threads.proofs.Lawful.{lawful, closed_shows}

@@ -1,7 +1,7 @@
 use Rattle.std.proofs.Common.{[], Option, subst}
 use Rattle.std.specs.List.{All}
 use Rattle.std.proofs.lemmas.List.Elements.{All-head}
-use Rattle.clk_trace.specs.Checks.{listed}
+use Rattle.clk_lawful.specs.Checks.{listed}
 use Rattle.clk_watcher.specs.Making.{Hand}
 use Rattle.clk_threads.specs.Parts.{WatchCame}
 use Rattle.clk_threads.proofs.run.back_watch.Goals as goal

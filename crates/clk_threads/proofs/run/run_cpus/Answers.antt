@@ -1,8 +1,8 @@
 use Rattle.std.proofs.Common.{List, length, Option, sym, ap, ◌∙◌, subst, arith}
 use Rattle.std.specs.List.{All}
 use Rattle.clk_machine.specs.Plan.{threads_of}
-use Rattle.clk_trace.specs.Checks.{listed}
-use Rattle.clk_trace.specs.LawfulTrace.{IsLawful}
+use Rattle.clk_lawful.specs.Checks.{listed}
+use Rattle.clk_lawful.specs.LawfulTrace.{IsLawful}
 use Rattle.clk_worker.specs.declared.shared.Shared.{Shared}
 use Rattle.clk_worker.specs.Making.{Hand, BelongsTo}
 use Rattle.clk_watcher.specs.Making.{Hand as WatchHand, BelongsTo as WatchBelongsTo}

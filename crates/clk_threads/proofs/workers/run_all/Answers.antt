@@ -1,7 +1,7 @@
 use Rattle.std.proofs.Common.{[], subst}
 use Rattle.std.specs.List.{All}
 use Rattle.std.proofs.lemmas.List.Elements.{All-head}
-use Rattle.clk_trace.specs.Checks.{listed}
+use Rattle.clk_lawful.specs.Checks.{listed}
 use Rattle.clk_watcher.specs.Making.{BelongsTo}
 use Rattle.clk_threads.proofs.workers.run_all.Goals as goal
 

@@ -1,6 +1,6 @@
 use Rattle.std.proofs.Common.{◌≡◌, ◌∙◌, ap, get_or, arith}
 use Rattle.clk_num.specs.Listed.{Listed}
-use Rattle.clk_trace.specs.declared.event.Event.{Event}
+use Rattle.clk_lawful.specs.declared.event.Event.{Event}
 use Rattle.clk_trace.proofs.Keeping.{keeps_none, keeps_all, keeps_room, room_part, left_next}
 use Rattle.clk_trace.proofs.gather.fill_rest.Goals as goal
 

@@ -1,5 +1,5 @@
 use Rattle.std.proofs.Common.{drop, get_or}
-use Rattle.clk_trace.specs.Filling.{lines_on, steps_left, Keeps}
+use Rattle.clk_lawful.specs.Filling.{lines_on, steps_left, Keeps}
 use Rattle.clk_trace.proofs.gather.fill_rest.Given as goal
 
 abbrev pub invariant-loop-thread : goal.invariant-loop-thread

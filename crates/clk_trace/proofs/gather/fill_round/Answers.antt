@@ -1,6 +1,6 @@
 use Rattle.std.proofs.Common.{◌≡◌, ◌∙◌, ◌<◌, length, refl, ap, get_or, arith}
 use Rattle.clk_num.specs.Listed.{Listed}
-use Rattle.clk_trace.specs.declared.event.Event.{Event}
+use Rattle.clk_lawful.specs.declared.event.Event.{Event}
 use Rattle.clk_trace.proofs.Keeping.{keeps_none, keeps_more, keeps_room, room_thread, keeps_set}
 use Rattle.clk_trace.proofs.gather.fill_round.Goals as goal
 

@@ -1,5 +1,5 @@
 use Rattle.std.proofs.Common.{get_or}
-use Rattle.clk_trace.specs.Filling.{lines_on, steps_left, Keeps}
+use Rattle.clk_lawful.specs.Filling.{lines_on, steps_left, Keeps}
 use Rattle.clk_trace.proofs.gather.fill_rounds.Given as goal
 
 abbrev pub invariant-loop-round : goal.invariant-loop-round

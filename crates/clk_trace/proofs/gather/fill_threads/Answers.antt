@@ -1,6 +1,6 @@
 use Rattle.std.proofs.Common.{get_or, replicate, refl, sym}
-use Rattle.clk_trace.specs.Filling.{lines_on, steps_left}
-use Rattle.clk_trace.specs.WordHistory.{all_steps}
+use Rattle.clk_lawful.specs.Filling.{lines_on, steps_left}
+use Rattle.clk_lawful.specs.WordHistory.{all_steps}
 use Rattle.clk_trace.proofs.Gaining.{room_same}
 use Rattle.clk_trace.proofs.Keeping.{keeps_same, keeps_more, keeps_room, none_kept, lines_start}
 use Rattle.clk_trace.proofs.gather.fill_threads.Goals as goal

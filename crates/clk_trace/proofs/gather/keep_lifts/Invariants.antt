@@ -1,6 +1,6 @@
 use Rattle.std.proofs.Common.{drop, map}
-use Rattle.clk_trace.specs.Filling.{lines_on}
-use Rattle.clk_trace.specs.WordHistory.{placed_lift}
+use Rattle.clk_lawful.specs.Filling.{lines_on}
+use Rattle.clk_lawful.specs.WordHistory.{placed_lift}
 use Rattle.clk_trace.proofs.Gaining.{Fills}
 use Rattle.clk_trace.proofs.gather.keep_lifts.Given as goal
 

@@ -1,5 +1,5 @@
 use Rattle.std.proofs.Common.{length, ◌-◌}
-use Rattle.clk_trace.specs.Filling.{lines_left, Keeps}
+use Rattle.clk_lawful.specs.Filling.{lines_left, Keeps}
 use Rattle.clk_trace.proofs.gather.keep_rest.Given as goal
 
 abbrev pub invariant-loop-part : goal.invariant-loop-part

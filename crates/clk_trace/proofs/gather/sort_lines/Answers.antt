@@ -1,6 +1,6 @@
 use Rattle.std.proofs.Common.{sym, subst}
 use Rattle.std.specs.List.Sorted.{IsPermutation, IsSorted}
-use Rattle.clk_trace.specs.WordHistory.{history_cmp}
+use Rattle.clk_lawful.specs.WordHistory.{history_cmp}
 use Rattle.clk_trace.proofs.Gaining.{refill_same}
 use Rattle.clk_trace.proofs.gather.sort_lines.Goals as goal
 

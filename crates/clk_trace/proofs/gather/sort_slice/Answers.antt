@@ -2,7 +2,7 @@ use Rattle.std.proofs.Common.{◌≡◌, rules}
 use Rattle.std.proofs.lemmas.Fn.{always_returns_same}
 use Rattle.std.proofs.lemmas.List.Sorted.{IsPermutation-trans}
 use Rattle.clk_num.specs.Wrapping.{above}
-use Rattle.clk_trace.specs.WordHistory.{is_flat}
+use Rattle.clk_lawful.specs.WordHistory.{is_flat}
 use Rattle.clk_trace.proofs.gather.sort_slice.Goals as goal
 
 pub returns-clause-all : goal.returns-clause-all

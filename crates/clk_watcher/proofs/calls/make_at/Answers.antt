@@ -1,6 +1,6 @@
 use Rattle.std.proofs.Common.{◌≡◌, ap, sym, rules, arith}
 use Rattle.clk_ticket.specs.Time.{Time}
-use Rattle.clk_trace.specs.Checks.{pause_of}
+use Rattle.clk_lawful.specs.Checks.{pause_of}
 use Rattle.clk_watcher.proofs.Contexts.{stands_at, stable_here}
 use Rattle.clk_watcher.proofs.CheckMade.{stands_paused, stable_paused, room_paused, makes_at}
 use Rattle.clk_watcher.proofs.calls.make_at.Goals as goal

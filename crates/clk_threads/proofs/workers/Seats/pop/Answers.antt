@@ -3,7 +3,7 @@ use Rattle.std.proofs.lemmas.List.{get_or_default}
 use Rattle.clk_num.specs.Listed.{Listed}
 use Rattle.clk_machine.specs.Plan.{Plan, cpu_count, thread_at, threads_of}
 use Rattle.clk_machine.specs.Limits.{IsWithinLimits}
-use Rattle.clk_trace.specs.declared.event.Event.{Event}
+use Rattle.clk_lawful.specs.declared.event.Event.{Event}
 use Rattle.clk_worker.specs.declared.own.Own.{Own}
 use Rattle.clk_threads.specs.Workers.{post_of, fresh_hand}
 use Rattle.clk_threads.proofs.LawfulLists.{thread_cpu}

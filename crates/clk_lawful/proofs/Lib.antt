@@ -1,0 +1,6 @@
+pub mod Sorting
+pub mod CountingBlocks
+pub mod CountingWords
+pub mod CountingLaws
+pub mod Few
+pub mod Naming

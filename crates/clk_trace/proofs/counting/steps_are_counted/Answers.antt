@@ -1,5 +1,0 @@
-use Rattle.clk_trace.proofs.CountingLaws.{counts_steps}
-use Rattle.clk_trace.proofs.counting.steps_are_counted.Goals as goal
-
-pub returns : goal.returns
-returns c = counts_steps
