@@ -1,14 +1,12 @@
 -- The tickets of a bring-up.
-use Rattle.std.specs.Prelude.{ℕ, ◌-◌, ◌*◌, ℤ, List, flat_map, Option, Some, None}
+use Rattle.std.specs.Prelude.{ℕ, ◌-◌, ◌*◌, ℤ, List, Option, Some, None}
 use Rattle.std.specs.List.{All}
 use Rattle.clk_ticket.specs.Time.{Time}
 use Rattle.clk_machine.specs.declared.parts.BringUpPart.{BringUpPart}
 use Rattle.clk_machine.specs.Plan.{Plan, cpu_count}
-use Rattle.clk_record.specs.declared.warp.WarpReading.{WarpReading}
 use Rattle.clk_record.specs.declared.warp.WarpRun.{WarpRun}
 use Rattle.clk_warp.specs.Run.{most_readings}
 use Rattle.clk_warp.specs.Pairs.{DrawsFor}
-use Rattle.clk_record.specs.declared.up.CpuUp.{CpuUp}
 use Rattle.clk_record.specs.BroughtUp.{most_runs, IsRunOfCpu}
 use Rattle.clk_record.specs.WarpReadings.{readings_in}
 

@@ -11,9 +11,9 @@ ghost use Rattle.clk_adjust.specs.Outcomes.{runs_of as runs_by, HasRoom, Brings}
 
 use crate::rooms::{rooms_for, runs_of, test_of};
 use crate::runs::{test_cpu, tested};
-use clk_record::{BroughtUp, CpuUp, UpOutcome};
 use clk_machine::{Gate, Machine};
 use clk_num::List;
+use clk_record::{BroughtUp, CpuUp, UpOutcome};
 use clk_ticket::{TicketTable, TimeSeat};
 use clk_warp::WarpRun;
 use std::alloc::{AllocError, Global};

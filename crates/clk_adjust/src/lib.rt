@@ -20,5 +20,5 @@ mod cpus;
 mod rooms;
 mod runs;
 
-pub use cpus::{bring_up, bring_up_but};
 pub use clk_record::{BroughtUp, CpuUp, UpOutcome};
+pub use cpus::{bring_up, bring_up_but};

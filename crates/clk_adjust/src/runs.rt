@@ -6,9 +6,9 @@ ghost use Rattle.clk_adjust.specs.Tickets.{cpu_tickets, HasDrawn};
 ghost use Rattle.clk_adjust.specs.Outcomes.{HasRoom, Brings};
 
 use crate::rooms::most_runs;
-use clk_record::{CpuUp, UpOutcome};
 use clk_machine::{BringUpPart, Gate, Machine};
 use clk_num::List;
+use clk_record::{CpuUp, UpOutcome};
 use clk_ticket::{TicketTable, TimeSeat};
 use clk_warp::{Verdict, WarpRun, run_pair, verdict};
 use std::alloc::{AllocError, Global};

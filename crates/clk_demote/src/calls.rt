@@ -14,12 +14,12 @@ ghost use Rattle.clk_demote.specs.Lifts.{lifts_of, lifted};
 ghost use Rattle.clk_demote.specs.Shows.{ShowsStamp, ShowsStableStamp, ShowsDemotion};
 
 use crate::context::WatchCtx;
-use clk_record::{Demotion, StableStamp};
 use crate::latches::read_at;
 use crate::opening::{demotion_after, stable_offset};
 use clk_latch::Epochs;
 use clk_machine::{CpuCounter, RawReading};
 use clk_num::List;
+use clk_record::{Demotion, StableStamp};
 use clk_words::{Seat, Step, Words};
 
 /// A stable stamp of CPU `cpu`: it stores the CPU's pair, and the offset by which the stamp's GTOD shows what the

@@ -1,8 +1,8 @@
 //! What the watchdog calls with: its seats and their objects.
-use clk_record::StableStamp;
 use clk_latch::Epochs;
 use clk_machine::Machine;
 use clk_num::List;
+use clk_record::StableStamp;
 use clk_ticket::{TicketTable, TimeSeat};
 use clk_words::{Seat, Words};
 

@@ -27,7 +27,7 @@ mod opening;
 mod tests;
 
 pub use calls::{demote, stable_stamp};
-pub use context::WatchCtx;
 pub use clk_record::{Demotion, StableStamp};
+pub use context::WatchCtx;
 pub use laws::demotions_shift_by_drift;
 pub use opening::{demotion_after, stable_offset};

@@ -2,9 +2,9 @@
 ghost use Rattle.std.specs.Prelude.{◌≡◌};
 ghost use Rattle.clk_record.specs.Demotions.{offset_by, IsDemotion};
 
-use clk_record::{Demotion, StableStamp};
 use clk_machine::RawReading;
 use clk_num::above;
+use clk_record::{Demotion, StableStamp};
 
 /// What takes monotonic time to the scheduler clock, in ns, by a stamp with this GTOD and raw value. `sched_offset` is
 /// what a stable reading adds to the raw clock. It wraps.

@@ -1,7 +1,7 @@
 //! A whole run: the boot, the bring-up, the events of each thread, and the history of each clock word.
 use crate::event::Event;
-use clk_record::{BroughtUp, Demotion, Mode, StableStamp, Step};
 use clk_num::List;
+use clk_record::{BroughtUp, Demotion, Mode, StableStamp, Step};
 use clk_watch::Watch;
 
 /// A step of a clock word: the thread that made it, the number of its script word, the place of its event in the

@@ -1,6 +1,6 @@
 //! What a bring-up leaves.
-use clk_num::List;
 use crate::warp::WarpRun;
+use clk_num::List;
 
 /// What came of the bring-up of a CPU.
 #[derive(Clone, Copy, PartialEq, Eq, Debug)]

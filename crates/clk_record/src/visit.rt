@@ -1,4 +1,6 @@
 //! What a check tells of a source.
+ghost use Rattle.std.specs.Prelude.{◌≡◌};
+ghost use Rattle.clk_record.specs.Fold.{ends_check, is_good, is_lost};
 
 /// What a check found at a source. `cs_ns` and `wd_ns` are how far the source and the watchdog went since the readings
 /// that were kept of them, in ns, from 0 to below 2^60.
@@ -16,6 +18,29 @@ pub enum Outcome {
     Good { cs_ns: i64, wd_ns: i64 },
     /// The two differ by more than the margin, which makes the source unstable.
     Bad { cs_ns: i64, wd_ns: i64 },
+}
+
+impl Outcome {
+    /// Whether the source and the watchdog agreed.
+    pub fn is_good(&self) -> bool
+        ensures { result ≡ is_good self.now }
+    {
+        matches!(self, Outcome::Good { .. })
+    }
+
+    /// Whether it makes the source unstable.
+    pub fn is_lost(&self) -> bool
+        ensures { result ≡ is_lost self.now }
+    {
+        matches!(self, Outcome::Slow | Outcome::Bad { .. })
+    }
+
+    /// Whether it ends the check.
+    pub fn ends_check(&self) -> bool
+        ensures { result ≡ ends_check self.now }
+    {
+        matches!(self, Outcome::Skip)
+    }
 }
 
 /// A source in a check: its place, its attempts, which are the `count` ones from `first` on in the watch's list, and

@@ -3,10 +3,10 @@ ghost use Rattle.std.specs.Prelude.{◌≡◌, ◌<◌, ◌≤◌, [], length, I
 ghost use Rattle.clk_lawful.specs.Filling.{MayFill, NamesWordsBelow};
 
 use crate::trace::{no_ups, raw};
-use clk_num::List;
 use clk_lawful::{Event, EventKind, HistoryStep, Trace};
-use clk_trace::histories;
+use clk_num::List;
 use clk_record::Mode;
+use clk_trace::histories;
 use std::alloc::{AllocError, Global};
 use std::test::Fail;
 

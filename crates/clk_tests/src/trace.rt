@@ -3,11 +3,11 @@ ghost use Rattle.std.specs.Prelude.{◌≡◌, length, IfOk, None};
 ghost use Rattle.clk_lawful.specs.Filling.{NamesWordsBelow};
 
 use crate::lists::one;
-use clk_record::{BroughtUp, Mode, StableStamp};
 use clk_base::raised;
+use clk_lawful::{Event, EventKind, HistoryStep, Trace};
 use clk_machine::{Published, RawReading};
 use clk_num::List;
-use clk_lawful::{Event, EventKind, HistoryStep, Trace};
+use clk_record::{BroughtUp, Mode, StableStamp};
 use clk_trace::{Failed, Sink, WriteFault, write_trace};
 use std::alloc::{AllocError, Global};
 use std::test::Fail;

@@ -7,8 +7,8 @@ ghost use Rattle.clk_warp.specs.Run.{most_readings};
 
 use clk_machine::{BringUpPart, CpuPart, Gate, Machine, OpenGate, Parts, ReferencePart, Script};
 use clk_num::List;
-use clk_ticket::TicketTable;
 use clk_record::Side;
+use clk_ticket::TicketTable;
 use clk_warp::{WarpState, run_pair};
 use std::alloc::{AllocError, Global};
 use std::hint::spin_loop;

@@ -6,10 +6,10 @@ ghost use Rattle.clk_ticket.specs.Time.{fresh};
 ghost use Rattle.clk_latch.specs.Epoch.{owner_of};
 ghost use Rattle.clk_threads.specs.Booting.{HasEpoch, MayStampAtBoot, HasStamped, HasStarted, IsBooted};
 
-use clk_record::StableStamp;
 use clk_latch::{Epochs, Latch, LatchSeat};
 use clk_machine::{CpuCounter, Machine, Published};
 use clk_num::List;
+use clk_record::StableStamp;
 use clk_ticket::{TicketTable, TimeSeat};
 use std::alloc::{AllocError, Global};
 

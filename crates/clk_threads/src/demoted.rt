@@ -3,9 +3,9 @@ ghost use Rattle.std.specs.Prelude.{IfOk};
 ghost use Rattle.clk_threads.specs.Booting.{IsBootedFor, IsDemotedFor};
 
 use crate::booted::{Booted, stamp};
-use clk_record::{BroughtUp, Demotion};
 use clk_demote::demotion_after;
 use clk_latch::{Epochs, Latch};
+use clk_record::{BroughtUp, Demotion};
 use std::alloc::{AllocError, Global};
 
 /// Demotes where this bring-up of a stable start failed, by a stamp of CPU 0 with the next two tickets, and else does

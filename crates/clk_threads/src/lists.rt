@@ -4,11 +4,11 @@ ghost use Rattle.clk_machine.specs.Plan.{threads_of, cpu_count};
 ghost use Rattle.clk_threads.specs.Preparing.{no_events, steps_room, histories_below, adjusts_of, empty_watch, AreLists};
 
 use crate::watchdog::{checks, has_watchdog};
-use clk_record::BroughtUp;
 use clk_latch::LatchSeat;
+use clk_lawful::{Event, HistoryStep, WatchTrace};
 use clk_machine::Machine;
 use clk_num::List;
-use clk_lawful::{Event, HistoryStep, WatchTrace};
+use clk_record::BroughtUp;
 use clk_watch::Watch;
 use clk_worker::Worker;
 use std::alloc::{AllocError, Global};

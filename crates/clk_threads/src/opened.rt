@@ -8,9 +8,9 @@ ghost use Rattle.clk_threads.specs.Booting.{AreStamps, IsDemotedAtBootBy, gtod_o
 ghost use Rattle.clk_threads.specs.Preparing.{kind_on, gave, gave_threads, gave_all, thread_seats, watch_seat, HasOpened};
 
 use crate::watchdog::has_watchdog;
-use clk_record::{Demotion, Mode, StableStamp};
 use clk_machine::Machine;
 use clk_num::List;
+use clk_record::{Demotion, Mode, StableStamp};
 use clk_words::{Opening, Seat, SeatKind, Words};
 use std::alloc::{AllocError, Global};
 

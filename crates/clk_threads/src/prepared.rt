@@ -10,9 +10,9 @@ use crate::latches::{Latches, make_latches};
 use crate::lists::{Lists, make_lists};
 use crate::opened::{Opened, open_words};
 use crate::times::{share_tickets, share_watch};
-use clk_record::{BroughtUp, Demotion, StableStamp};
 use clk_machine::{Machine, Published};
 use clk_num::List;
+use clk_record::{BroughtUp, Demotion, StableStamp};
 use clk_ticket::{TicketTable, TimeSeat};
 use std::alloc::{AllocError, Global};
 

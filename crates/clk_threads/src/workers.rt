@@ -7,12 +7,12 @@ ghost use Rattle.clk_lawful.specs.Checks.{listed};
 ghost use Rattle.clk_watcher.specs.Making.{BelongsTo as WatchBelongsTo};
 ghost use Rattle.clk_threads.specs.Workers.{HaveSeats, IsOfLast, AreInSlots, HaveWatchSeats, IsWatcherOf, HasRun, HaveRun, HasWatchRun, WatcherRan};
 
-use clk_record::StableStamp;
 use clk_latch::LatchSeat;
+use clk_lawful::{Event, WatchTrace};
 use clk_machine::{Gate, Machine};
 use clk_num::List;
+use clk_record::StableStamp;
 use clk_ticket::TimeSeat;
-use clk_lawful::{Event, WatchTrace};
 use clk_watcher::{WatchParts, Watcher};
 use clk_words::Seat;
 use clk_worker::{Own, Post, Shared, Worker};

@@ -5,9 +5,9 @@ use crate::answered::{Row, answer_to, are_answered, bytes_of, is_one, is_so, joi
 use crate::gates::{Barrier, Meeting};
 use crate::run::read_run;
 use crate::sure::SureSource;
-use clk_record::{BroughtUp, UpOutcome};
 use clk_adjust::bring_up_but;
 use clk_machine::{Gate, OpenGate};
+use clk_record::{BroughtUp, UpOutcome};
 use clk_threads::Booted;
 use std::alloc::{AllocError, Global};
 use std::process::Abort;

@@ -13,13 +13,13 @@ ghost use Rattle.clk_tool.specs.Answers.{IsOfRun};
 
 use crate::run::run_machine;
 use crate::status::Status;
-use clk_record::{BroughtUp, CpuUp, UpOutcome};
+use clk_lawful::{HistoryStep, Trace};
 use clk_machine::{Gate, Machine};
 use clk_make::{machine_of, sizes_are_fixed};
 use clk_num::List;
+use clk_record::{BroughtUp, CpuUp, UpOutcome};
 use clk_threads::{Finished, boot};
 use clk_trace::Part::{Name, Unsigned};
-use clk_lawful::{HistoryStep, Trace};
 use clk_trace::{Out, Sink, WriteFault};
 use std::alloc::{AllocError, Global};
 use std::thread::Threads;

@@ -12,9 +12,9 @@ ghost use Rattle.clk_tool.specs.Answers.{CameMachine, Traced, status_of, IsCause
 use crate::source::Source;
 use crate::status::{Refusal, Status};
 use crate::whole::{LIMIT, ReadRefusal, read_whole};
-use clk_record::BroughtUp;
 use clk_file::{FileError, read_machine};
 use clk_machine::{Gate, Machine};
+use clk_record::BroughtUp;
 use clk_threads::{Booted, Finished, boot, prepare, run_cpus};
 use clk_trace::{Sink, WriteFault, write_trace};
 use std::alloc::{AllocError, Global};

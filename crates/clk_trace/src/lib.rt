@@ -14,7 +14,10 @@ mod sink;
 mod write;
 mod write_watch;
 
-pub use clk_lawful::{Event, EventKind, HistoryStep, Trace, WatchTrace, sorted_steps_are_a_chain, steps_are_counted, tickets_are_counted};
+pub use clk_lawful::{
+    Event, EventKind, HistoryStep, Trace, WatchTrace, sorted_steps_are_a_chain, steps_are_counted,
+    tickets_are_counted,
+};
 pub use gather::histories;
 pub use out::{Out, Part, WriteFault};
 pub use sink::{Failed, Sink};

@@ -12,14 +12,14 @@ ghost use Rattle.clk_trace.specs.WriterParts.{event_text, boot_text, up_text, ru
 ghost use Rattle.clk_lawful.specs.Checks.{listed};
 ghost use Rattle.clk_lawful.specs.WritableWatch.{MayWriteWatch};
 
-use clk_lawful::{Event, EventKind, HistoryStep, Trace};
 use crate::out::Part::{Name, Negated, Signed, Unsigned};
 use crate::out::{Out, Part, WriteFault};
 use crate::sink::Sink;
 use crate::write_watch::{write_demotion, write_watch};
-use clk_record::{CpuUp, Mode, Side, StableStamp, UpOutcome, WarpReading, WarpRun};
+use clk_lawful::{Event, EventKind, HistoryStep, Trace};
 use clk_machine::{Published, RawReading};
 use clk_num::List;
+use clk_record::{CpuUp, Mode, Side, StableStamp, UpOutcome, WarpReading, WarpRun};
 
 /// Writes the trace's text into a sink, and takes no memory. Each thread must have its CPU. Where there is a watchdog,
 /// there must be a history, so that a check has its CPU, and the lists of its checks must be as long as each other,

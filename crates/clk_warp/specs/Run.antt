@@ -1,12 +1,10 @@
 -- What a contract sees of a run's state under the warp lock, and what one section does to it.
-use Rattle.std.specs.Prelude.{◌≡◌, ℕ, ◌+◌, ◌*◌, ◌/◌, ◌≤◌, Bool, true, false, not, ◌&&◌, ℤ, pos, List, [], ◌∷◌, ◌++◌, Option, Some, None, option_map, is_some}
+use Rattle.std.specs.Prelude.{◌≡◌, ℕ, ◌+◌, ◌*◌, ◌≤◌, Bool, true, false, not, ◌&&◌, ℤ, pos, List, [], ◌∷◌, ◌++◌, Option, Some, None, option_map, is_some}
 use Rattle.atomic_table.specs.Seated.{TableId}
 use Rattle.clk_num.specs.Range.{IsNear}
 use Rattle.clk_ticket.specs.Time.{Time, Draws, after_draw}
-use Rattle.clk_machine.specs.Plan.{Plan, count_of}
+use Rattle.clk_machine.specs.Plan.{Plan}
 use Rattle.clk_machine.specs.Time.{counter_at}
-use Rattle.clk_machine.specs.Timeouts.{timeout_of}
-use Rattle.clk_machine.specs.declared.parts.BringUpPart.{BringUpPart}
 use Rattle.clk_record.specs.declared.warp.Side.{Side}
 use Rattle.clk_record.specs.declared.warp.Side.TheVariants.{Source, Target}
 use Rattle.clk_record.specs.declared.warp.WarpReading.{WarpReading}

@@ -31,11 +31,11 @@ mod state;
 mod view;
 mod worker;
 
+pub use clk_record::{Side, Verdict, WarpReading, WarpRun};
 pub use counts::WarpCounts;
 pub use judge::verdict;
 pub use laws::falls_are_counted;
 pub use lock::TurnLock;
-pub use clk_record::{Side, Verdict, WarpReading, WarpRun};
 pub use pair::run_pair;
 pub use seat::TurnSeat;
 pub use state::WarpState;

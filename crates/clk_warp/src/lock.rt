@@ -7,12 +7,12 @@ ghost use Rattle.clk_warp.specs.LockRule.{knows_first};
 ghost use Rattle.clk_warp.specs.Locking.{IsWaiting, IsOutside, HasDrawn, HasBeenCalled};
 
 use crate::seat::TurnSeat;
-use clk_record::Side;
 use crate::state::WarpState;
 use crate::view::{Both, Call, Draw, Give, Look, Raise, Sides, Take, TakingTurns, View};
 use atomic_table::{Refused, Seat, Table};
 use clk_machine::Machine;
 use clk_num::List;
+use clk_record::Side;
 use std::alloc::{AllocError, Global};
 use std::hint::spin_loop;
 use std::marker::Model;

@@ -10,10 +10,10 @@ ghost use Rattle.clk_warp.specs.Pairs.{IsPaired, IsFinished, HasRun};
 
 use crate::lock::TurnLock;
 use crate::seat::TurnSeat;
-use clk_record::{Side, WarpRun};
 use crate::state::WarpState;
 use crate::worker::{SideEnd, run_side};
 use clk_machine::{Gate, Machine};
+use clk_record::{Side, WarpRun};
 use clk_ticket::{TicketTable, TimeSeat};
 use std::alloc::{AllocError, Global};
 use std::mem::replace;

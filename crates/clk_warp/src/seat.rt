@@ -1,10 +1,10 @@
 //! A seat at the warp lock, one for each side.
 ghost use Rattle.std.specs.Prelude.{◌≡◌, Some, IsSome};
 
-use clk_record::Side;
 use crate::state::WarpState;
 use crate::view::View;
 use atomic_table::Seat;
+use clk_record::Side;
 use std::marker::Model;
 use std::snapshot::Snapshot;
 

@@ -15,9 +15,9 @@ ghost use Rattle.clk_warp.specs.Counts.{AreCountsOf};
 ghost use Rattle.clk_record.specs.Warps.{IsWarpRun};
 
 use crate::counts::WarpCounts;
-use clk_record::{Side, WarpReading, WarpRun};
 use clk_machine::{BringUpPart, Machine};
 use clk_num::List;
+use clk_record::{Side, WarpReading, WarpRun};
 use clk_ticket::{TicketTable, TimeSeat};
 use std::alloc::{AllocError, Global};
 use std::marker::Model;

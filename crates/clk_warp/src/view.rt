@@ -1,8 +1,8 @@
 //! What the seats of a warp lock know, the rule over it, and what each step does to it.
 use crate::section::Section;
-use clk_record::Side;
 use crate::state::WarpState;
 use atomic_table::{Join, Play, Split, TableRule};
+use clk_record::Side;
 use std::collections::LinkedList;
 use std::snapshot::Snapshot;
 

@@ -8,8 +8,8 @@ ghost use Rattle.clk_warp.specs.Working.{readings_of, IsReady, Works};
 
 use crate::lock::TurnLock;
 use crate::seat::TurnSeat;
-use clk_record::Side;
 use clk_machine::{Gate, Machine};
+use clk_record::Side;
 use clk_ticket::TicketTable;
 use std::sync::Wait;
 

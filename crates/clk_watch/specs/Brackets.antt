@@ -1,16 +1,11 @@
 -- Brackets: readings of a source between readings of the reference.
-use Rattle.std.specs.Prelude.{◌≡◌, ℕ, ◌+◌, ◌*◌, ◌/◌, ◌≤◌, nat_lt, nat_le, ℤ, List, [], ◌∷◌, ◌++◌, length, slice_index, Option, Some, None, unwrap_or, if◌then◌else◌}
+use Rattle.std.specs.Prelude.{◌≡◌, ℕ, ◌+◌, ◌*◌, ℤ, List, ◌++◌, length}
 use Rattle.std.specs.List.{All, flat_map}
-use Rattle.clk_num.specs.Conversion.{convert}
-use Rattle.clk_num.specs.Masked.{low_bits, masked_delta}
 use Rattle.clk_num.specs.Listed.{Listed}
 use Rattle.clk_ticket.specs.Time.{Time}
-use Rattle.clk_machine.specs.declared.parts.WatchPart.{WatchPart}
-use Rattle.clk_machine.specs.Plan.{Plan, count_of}
-use Rattle.clk_machine.specs.Time.{counter_at, source_plan_at, source_at, reference_at, reference_rate}
+use Rattle.clk_machine.specs.Plan.{Plan}
 use Rattle.clk_record.specs.declared.attempt.Attempt.{Attempt}
 use Rattle.clk_record.specs.declared.attempt.Bracket.{Bracket}
-use Rattle.clk_record.specs.declared.attempt.Bracket.TheVariants.{Accepted, Skip, Slow}
 use Rattle.clk_watch.specs.Draws.{DrawsEach}
 use Rattle.clk_record.specs.Attempts.{IsRightAttempt, IsBracket}
 

@@ -1,9 +1,8 @@
 -- What contracts see of a `Watch`, and what a visit does to it.
-use Rattle.std.specs.Prelude.{◌≡◌, ℕ, ◌+◌, ◌*◌, ◌≤◌, Bool, ℤ, List, [], ◌∷◌, ◌++◌, length, Option, Some, None}
+use Rattle.std.specs.Prelude.{◌≡◌, ℕ, ◌+◌, ◌*◌, ◌≤◌, Bool, ℤ, List, [], ◌∷◌, ◌++◌, length}
 use Rattle.clk_num.specs.Listed.{Listed}
 use Rattle.clk_ticket.specs.Time.{Time}
-use Rattle.clk_machine.specs.declared.parts.WatchPart.{WatchPart}
-use Rattle.clk_machine.specs.Plan.{Plan, count_of}
+use Rattle.clk_machine.specs.Plan.{Plan}
 use Rattle.clk_record.specs.declared.attempt.Attempt.{Attempt}
 use Rattle.clk_record.specs.declared.visit.SourceRecord.{SourceRecord}
 use Rattle.clk_record.specs.declared.watched.Watched.{Watched}

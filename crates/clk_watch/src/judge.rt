@@ -1,12 +1,12 @@
 //! What a bracket says of a source.
 ghost use Rattle.std.specs.Prelude.{◌≡◌, ◌^◌, ◌<◌, length};
 ghost use Rattle.clk_machine.specs.Limits.{IsWithinLimits};
-ghost use Rattle.clk_record.specs.Fold.{compared, judged as judged_by, outcome_of as outcome_by, is_good, is_lost};
+ghost use Rattle.clk_record.specs.Fold.{compared, judged as judged_by, outcome_of as outcome_by};
 ghost use Rattle.clk_watch.specs.Small.{IsSmallBracket, IsSmallKept, IsSmallPair, IsSmallWatched};
 
-use clk_record::{Bracket, Outcome, Pair, Watched};
 use crate::numbers::{margin, reference_ns, source_ns};
 use clk_machine::Machine;
+use clk_record::{Bracket, Outcome, Pair, Watched};
 
 /// The outcome at source `s` by how its bracket ended, if it was read.
 pub(crate) fn outcome_of(
@@ -59,21 +59,5 @@ pub(crate) fn compare(margin: u64, cs_ns: u64, wd_ns: u64) -> Outcome
         Outcome::Bad { cs_ns, wd_ns }
     } else {
         Outcome::Good { cs_ns, wd_ns }
-    }
-}
-
-impl Outcome {
-    /// Whether the source and the watchdog agreed.
-    pub(crate) fn is_good(&self) -> bool
-        ensures { result ≡ is_good self.now }
-    {
-        matches!(self, Outcome::Good { .. })
-    }
-
-    /// Whether it makes the source unstable.
-    pub(crate) fn is_lost(&self) -> bool
-        ensures { result ≡ is_lost self.now }
-    {
-        matches!(self, Outcome::Slow | Outcome::Bad { .. })
     }
 }

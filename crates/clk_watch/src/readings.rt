@@ -8,10 +8,10 @@ ghost use Rattle.clk_watch.specs.Draws.{DrawsEach};
 ghost use Rattle.clk_record.specs.Attempts.{reference_shown, source_reading, IsRightAttempt};
 ghost use Rattle.clk_watch.specs.Small.{IsSmall, IsSmallAttempt};
 
-use clk_record::Attempt;
 use crate::numbers::count;
 use clk_machine::{CpuCounter, Machine};
 use clk_num::mask_of;
+use clk_record::Attempt;
 use clk_ticket::{TicketTable, TimeSeat};
 
 // A reading of a counter: its ticket, and the cycles that the counter shows there.

@@ -2,8 +2,8 @@
 ghost use Rattle.std.specs.Prelude.{◌≡◌, ◌<◌, map, length, true, Some};
 ghost use Rattle.clk_record.specs.Fold.{unmarked, left_of as left_by_outcome, left_by};
 
-use clk_record::{Outcome, Pair, Watched};
 use clk_num::List;
+use clk_record::{Outcome, Pair, Watched};
 
 /// Keeps of source `s` and the others what an outcome leaves. `now` is the accepted pair, if there is one.
 pub(crate) fn settle(sources: &mut List<Watched>, s: u32, outcome: &Outcome, now: Pair)

@@ -8,11 +8,11 @@ ghost use Rattle.clk_watch.specs.Brackets.{Brackets};
 ghost use Rattle.clk_watch.specs.Small.{IsSmallAttempt, IsSmallBracket};
 ghost use Rattle.clk_watch.specs.Trying.{TriesOnce};
 
-use clk_record::{Attempt, Bracket};
 use crate::numbers::{reference_ns, retries, skew};
 use crate::readings::attempt;
 use clk_machine::{CpuCounter, Machine};
 use clk_num::List;
+use clk_record::{Attempt, Bracket};
 use clk_ticket::{TicketTable, TimeSeat};
 
 /// A bracket of source `s`, whose attempts are appended.

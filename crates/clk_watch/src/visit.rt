@@ -10,7 +10,6 @@ ghost use Rattle.clk_watch.specs.Watching.{Visits};
 ghost use Rattle.clk_watch.specs.Small.{IsSmallBracket, IsSmallWatched};
 ghost use Rattle.clk_watch.specs.Visiting.{IsRead, HasFlags, pair_in};
 
-use clk_record::{Attempt, Bracket, Outcome, Pair, SourceRecord, Watched};
 use crate::judge::outcome_of;
 use crate::numbers::count;
 use crate::place::current_place;
@@ -18,6 +17,7 @@ use crate::settle::settle;
 use crate::tries::bracket_of;
 use clk_machine::{CpuCounter, Machine, SourcePart};
 use clk_num::List;
+use clk_record::{Attempt, Bracket, Outcome, Pair, SourceRecord, Watched};
 use clk_ticket::{TicketTable, TimeSeat};
 use std::alloc::{AllocError, Global};
 

@@ -7,13 +7,13 @@ ghost use Rattle.clk_watch.specs.Brackets.{Brackets};
 ghost use Rattle.clk_record.specs.Fold.{at_first, ratings_of, IsCurrent, AreVisits};
 ghost use Rattle.clk_watch.specs.Watching.{Watching, kept_of, started, Checks};
 
-use clk_record::{Attempt, Bracket, SourceRecord, Watched};
 use crate::numbers::{count, retries, visits};
 use crate::place::current_place;
 use crate::tries::bracket_of;
 use crate::visit::{first_watched, visit};
 use clk_machine::{CpuCounter, Machine};
 use clk_num::List;
+use clk_record::{Attempt, Bracket, SourceRecord, Watched};
 use clk_ticket::{TicketTable, TimeSeat};
 use std::alloc::{AllocError, Global};
 use std::marker::Model;

@@ -2,7 +2,6 @@
 ghost use Rattle.std.specs.Prelude.{◌≡◌, ◌+◌, ◌<◌, ◌≤◌, [], ◌∷◌, ◌++◌, ◌||◌, ◌^◌, true, false, length};
 ghost use Rattle.clk_machine.specs.Plan.{cpu_count};
 ghost use Rattle.clk_machine.specs.Time.{source_plan_at};
-ghost use Rattle.clk_record.specs.Fold.{ends_check as ends_check_of};
 ghost use Rattle.clk_record.specs.ChecksAsked.{checks_asked};
 ghost use Rattle.clk_lawful.specs.Checks.{pause_of};
 ghost use Rattle.clk_demote.specs.Context.{IsSeated};
@@ -13,9 +12,9 @@ use crate::numbers;
 use crate::parts::{WatchParts, context, parts_of};
 use clk_demote::{WatchCtx, demote, stable_stamp};
 use clk_latch::Latch;
-use clk_machine::CpuCounter;
 use clk_lawful::WatchTrace;
-use clk_record::{Outcome, SourceRecord};
+use clk_machine::CpuCounter;
+use clk_record::SourceRecord;
 use clk_worker::Shared;
 
 /// Makes the check of this number, and gives the parts back. `stable` says whether the clock is stable, which a
@@ -113,14 +112,7 @@ fn visit(
         .watch
         .check_source(s, counter, ctx.tickets, &mut ctx.time);
     follow(ctx, cpu, number, &record, stable, trace);
-    ends_check(&record.outcome)
-}
-
-// Whether an outcome ends the check.
-fn ends_check(outcome: &Outcome) -> bool
-    ensures { result ≡ ends_check_of outcome.now }
-{
-    matches!(outcome, Outcome::Skip)
+    record.outcome.ends_check()
 }
 
 // The stamp or the demotion that a record is followed by while the clock is stable.

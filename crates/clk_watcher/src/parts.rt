@@ -1,11 +1,10 @@
 //! What the watchdog has of its own, and the context of its calls.
 ghost use Rattle.clk_watcher.specs.Calling.{HasPartsOf, IsContext};
 
-use clk_record::StableStamp;
-
 use clk_demote::WatchCtx;
 use clk_latch::{Latch, LatchSeat};
 use clk_num::List;
+use clk_record::StableStamp;
 use clk_ticket::TimeSeat;
 use clk_words::Seat;
 use clk_worker::Shared;

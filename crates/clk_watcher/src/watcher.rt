@@ -6,8 +6,8 @@ ghost use Rattle.clk_watcher.specs.Making.{Begins, BelongsTo, WentOn, RanAll, Ma
 use crate::calls::make_at;
 use crate::numbers::checks;
 use crate::parts::WatchParts;
-use clk_machine::Gate;
 use clk_lawful::WatchTrace;
+use clk_machine::Gate;
 use clk_worker::Shared;
 use std::marker::Model;
 

@@ -3,8 +3,8 @@ ghost use Rattle.std.specs.Prelude.{◌≡◌, ◌<◌};
 ghost use Rattle.clk_words.specs.Histories.{opens_at, value_after};
 
 use crate::heights::value_at;
-use clk_record::Step;
 use crate::view::View;
+use clk_record::Step;
 use std::alloc::Global;
 use std::marker::Model;
 use std::snapshot::Snapshot;

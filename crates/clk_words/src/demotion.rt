@@ -14,9 +14,9 @@ ghost use Rattle.clk_words.specs.Calls.{step_of};
 use crate::heights::{value_at, word_at};
 use crate::rule::{Lifting, ModeStore, OffsetStore, Opens, PairStore};
 use crate::seat::Seat;
-use clk_record::{Step, Why};
 use crate::words::Words;
 use clk_num::{bits_of, raise};
+use clk_record::{Step, Why};
 use std::marker::Brand;
 
 impl Words {

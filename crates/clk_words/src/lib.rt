@@ -42,12 +42,12 @@ mod tests;
 mod view;
 mod words;
 
+pub use clk_record::{Mode, Step, Why};
 pub use closed::Closed;
 pub use kind::SeatKind;
 pub use laws::{
     each_follows, held_was_put, lifted_before, offset_stays, steps_are_chains, words_rise,
 };
-pub use clk_record::{Mode, Step, Why};
 pub use opening::{Opening, Start};
 pub use seat::Seat;
 pub use step::Put;

@@ -7,11 +7,11 @@ ghost use Rattle.clk_words.specs.Held.{place_of};
 ghost use Rattle.clk_words.specs.Told.{Loads, FindsGtod, FindsRaw, FindsMode, FindsOffset};
 
 use crate::heights::value_at;
-use clk_record::Mode;
 use crate::rule::{ClockLoad, GtodLoad, ModeLoad, OffsetLoad, RawLoad};
 use crate::seat::Seat;
 use crate::words::Words;
 use clk_num::value_of_bits;
+use clk_record::Mode;
 
 impl Words {
     /// The value of the clock word of CPU `w`, in ns. One load, which takes no memory and does not wait.

@@ -10,10 +10,10 @@ ghost use Rattle.clk_words.specs.Calls.{OnDone, OnLost, Loses, step_of};
 use crate::heights::{value_at, word_at};
 use crate::rule::Exchange;
 use crate::seat::Seat;
-use clk_record::{Step, Why};
 use crate::step::Put;
 use crate::view::Name;
 use crate::words::Words;
+use clk_record::{Step, Why};
 
 impl Words {
     /// Puts `new`, which is `old` raised to the target of `why`, into the clock word of CPU `w`, if that holds `old`

@@ -10,9 +10,9 @@ ghost use Rattle.clk_words.specs.Calls.{step_of};
 use crate::heights::{value_at, word_at};
 use crate::rule::{Asked, Greatest};
 use crate::seat::Seat;
-use clk_record::{Step, Why};
 use crate::words::Words;
 use clk_num::{above, raise, target_local};
+use clk_record::{Step, Why};
 use std::marker::Brand;
 
 impl Words {

@@ -1,9 +1,9 @@
 //! The rule over the words and all views, and what each step tells.
 use crate::kind::SeatKind;
 use crate::opening::Start;
-use clk_record::Step;
 use crate::view::View;
 use atomic_table::{Join, Play, Split, TableRule};
+use clk_record::Step;
 use std::marker::{Brand, PhantomData};
 
 pub struct OneHistory;

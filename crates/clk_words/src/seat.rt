@@ -3,8 +3,8 @@ ghost use Rattle.std.specs.Prelude.{◌≡◌, ◌<◌};
 ghost use Rattle.clk_words.specs.Kinds.{cpu_of};
 
 use crate::kind::SeatKind;
-use clk_record::Step;
 use crate::view::View;
+use clk_record::Step;
 use std::marker::Model;
 
 /// A thread's place at the clock words.

@@ -1,7 +1,7 @@
 //! What a seat knows. No value of these types is made: contracts and the rule read them.
 use crate::kind::SeatKind;
-use clk_record::{Mode, Step};
 use crate::opening::Start;
+use clk_record::{Mode, Step};
 use std::collections::LinkedList;
 
 /// The word that a load was of.

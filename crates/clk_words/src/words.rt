@@ -9,13 +9,13 @@ ghost use Rattle.clk_words.specs.Calls.{IsComplete};
 
 use crate::closed::Closed;
 use crate::kind::SeatKind;
-use clk_record::{Mode, Step};
 use crate::opening::{Opening, Start};
 use crate::rule::OneHistory;
 use crate::seat::Seat;
 use crate::view::View;
 use atomic_table::Table;
 use clk_num::{bits_of, word_of};
+use clk_record::{Mode, Step};
 use std::alloc::{AllocError, Global};
 use std::marker::Model;
 use std::snapshot::Snapshot;

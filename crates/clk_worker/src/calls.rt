@@ -10,11 +10,11 @@ use crate::keep::{keep, keep_reading, keep_remote, keep_tick};
 use crate::own::Post;
 use crate::shared::Shared;
 use clk_latch::{Epochs, Latch};
+use clk_lawful::{Event, EventKind};
 use clk_local::{Ctx, IdleEvent, idle, local, tick};
 use clk_machine::Word;
 use clk_num::List;
 use clk_remote::remote;
-use clk_lawful::{Event, EventKind};
 
 /// Makes word `m` of the thread's script, in a context of the thread at any call.
 #[inline(always)]

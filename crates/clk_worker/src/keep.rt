@@ -4,12 +4,12 @@ ghost use Rattle.clk_lawful.specs.declared.event.EventKind.TheVariants.{Stable, 
 ghost use Rattle.clk_worker.specs.Running.{kinds_of_step, kinds_of_reading, kinds_of_tick};
 ghost use Rattle.clk_worker.specs.Calling.{kinds_of_remote, KeepsEvents};
 
+use clk_lawful::{Event, EventKind};
 use clk_local::{Reading, TickEvent};
 use clk_machine::RawReading;
 use clk_num::List;
-use clk_remote::RemoteEvent;
-use clk_lawful::{Event, EventKind};
 use clk_record::{Step, Why};
+use clk_remote::RemoteEvent;
 
 /// Keeps one event.
 #[inline(always)]

@@ -5,9 +5,9 @@ ghost use Rattle.clk_worker.specs.Making.{script_of, Begins, BelongsTo, WentOn, 
 use crate::calls::make_at;
 use crate::own::{Own, Post, context, own_of};
 use crate::shared::Shared;
+use clk_lawful::{Event, EventKind};
 use clk_machine::Gate;
 use clk_num::List;
-use clk_lawful::{Event, EventKind};
 use std::marker::Model;
 
 /// One thread of a run: its seats, the place in its script, and its events so far.
