@@ -13,12 +13,12 @@ use Rattle.clk_machine.specs.declared.parts.BringUpPart.{BringUpPart}
 use Rattle.clk_machine.specs.Plan.{Plan, cpu_count}
 use Rattle.clk_record.specs.declared.warp.WarpReading.{WarpReading}
 use Rattle.clk_record.specs.declared.warp.WarpRun.{WarpRun}
-use Rattle.clk_warp.specs.Pairs.{DrawsFor}
 use Rattle.clk_record.specs.declared.up.UpOutcome.{UpOutcome}
 use Rattle.clk_record.specs.declared.up.UpOutcome.TheVariants.{Untested, Skipped}
 use Rattle.clk_record.specs.declared.up.CpuUp.{CpuUp}
 use Rattle.clk_record.specs.BroughtUp.{is_passed_over, test_of, IsUp, is_failure, failed_after, IsBroughtUp}
 use Rattle.clk_record.specs.WarpReadings.{readings_in, all_readings}
+use Rattle.clk_warp.specs.Pairs.{DrawsFor}
 use Rattle.clk_adjust.specs.Tickets.{cpu_tickets, up_tickets, HasDrawn}
 use Rattle.clk_adjust.specs.Outcomes.{Brings}
 use Rattle.clk_adjust.proofs.Drawing.{draws_none, draws_both, all_push, drawn_none, drawn_both}

@@ -11,10 +11,10 @@ use Rattle.clk_ticket.specs.Time.{Time, after_draw}
 use Rattle.clk_machine.specs.Plan.{Plan}
 use Rattle.clk_record.specs.declared.warp.WarpReading.{WarpReading}
 use Rattle.clk_record.specs.declared.warp.WarpRun.{WarpRun}
-use Rattle.clk_warp.specs.Pairs.{drawn_for, block_of, DrawsFor, IsPaired}
 use Rattle.clk_record.specs.declared.up.CpuUp.{CpuUp}
 use Rattle.clk_record.specs.BroughtUp.{IsRunOfCpu, adjusted}
 use Rattle.clk_record.specs.WarpReadings.{readings_in, all_readings}
+use Rattle.clk_warp.specs.Pairs.{drawn_for, block_of, DrawsFor, IsPaired}
 use Rattle.clk_adjust.specs.Tickets.{IsMade, HasDrawn}
 
 pub draws_none : (t : Time) → DrawsFor t [] t

@@ -11,8 +11,8 @@ use Rattle.clk_record.specs.Sides.{is_same, of_side}
 use Rattle.clk_record.specs.Falls.{Limits, is_started, start_of, next_turn, is_over, is_ended, AreInTurn}
 use Rattle.clk_record.specs.Warps.{IsWarpRun}
 use Rattle.clk_record.specs.WarpLimits.{limits_in}
+use Rattle.clk_record.proofs.Falls.{same_then}
 use Rattle.clk_warp.specs.Run.{most_readings}
-use Rattle.clk_warp.proofs.Meaning.{same_then}
 use Rattle.clk_warp.proofs.Counting.{same_side}
 use Rattle.clk_warp.proofs.Placing.{mine_push, theirs_push, ended_theirs, ended_mine}
 

@@ -1,5 +1,5 @@
 -- The runs of a CPU so far: each was made by the sum of the adjustments before it, and called for another one.
-use Rattle.std.proofs.Common.{◌≡◌, ℕ, zero, suc, ◌+◌, ◌-◌, ◌*◌, ◌^◌, ◌<◌, ◌≤◌, Bool, true, false, ◌||◌, ltb, nat_eq, ℤ, pos, ◌+ℤ◌, ◌-ℤ◌, ◌≤ℤ◌, neg_ℤ, if◌then◌else◌, List, [], ◌∷◌, ◌++◌, length, length-append, Some, refl, sym, ap, ◌∙◌, subst, mul-le-mul_right, arith}
+use Rattle.std.proofs.Common.{◌≡◌, ℕ, zero, suc, ◌+◌, ◌-◌, ◌*◌, ◌^◌, ◌<◌, ◌≤◌, false, ℤ, pos, ◌+ℤ◌, List, [], ◌∷◌, ◌++◌, length, length-append, Some, refl, sym, ap, ◌∙◌, subst, mul-le-mul_right, arith}
 use Rattle.std.proofs.Common.{FitsSigned, w64, to_z-of_z, rules}
 use mir.Val.{to_z, of_z}
 use Rattle.std.proofs.lemmas.Int.{ints}
@@ -11,23 +11,24 @@ use Rattle.clk_num.specs.Range.{IsNear}
 use Rattle.clk_ticket.specs.Time.{Time}
 use Rattle.clk_machine.specs.Plan.{Plan, cpu_count}
 use Rattle.clk_machine.specs.Limits.{IsWithinLimits}
+use Rattle.clk_machine.specs.declared.parts.BringUpPart.{BringUpPart}
 use Rattle.clk_record.specs.declared.warp.WarpReading.{WarpReading}
 use Rattle.clk_record.specs.declared.warp.WarpRun.{WarpRun}
 use Rattle.clk_record.specs.declared.verdict.Verdict.{Verdict}
 use Rattle.clk_record.specs.declared.verdict.Verdict.TheVariants as verdict
 use Rattle.clk_record.specs.Verdicts.{adjustment, verdict_of}
 use Rattle.clk_record.specs.WarpLimits.{limits_in}
-use Rattle.clk_warp.specs.Run.{most_readings}
-use Rattle.clk_warp.specs.Pairs.{DrawsFor, IsPaired}
 use Rattle.clk_record.specs.declared.up.UpOutcome.{UpOutcome}
 use Rattle.clk_record.specs.declared.up.CpuUp.{CpuUp}
-use Rattle.clk_machine.specs.declared.parts.BringUpPart.{BringUpPart}
 use Rattle.clk_record.specs.BroughtUp.{IsRunOfCpu, adjusted, adjusted_by, AreRunsOf, most_runs, AreMadeAgain, Decides, IsTested}
 use Rattle.clk_record.specs.WarpReadings.{readings_in}
+use Rattle.clk_record.proofs.Counters.{readings_by}
+use Rattle.clk_record.proofs.Sizes.{IsSmall, run_small}
+use Rattle.clk_record.proofs.Calls.{IsFar, far_near, adjustment_far, calls_again}
+use Rattle.clk_warp.specs.Run.{most_readings}
+use Rattle.clk_warp.specs.Pairs.{DrawsFor, IsPaired}
 use Rattle.clk_adjust.specs.Tickets.{cpu_tickets, HasDrawn}
 use Rattle.clk_adjust.specs.Outcomes.{Brings}
-use Rattle.clk_adjust.proofs.Counters.{readings_by}
-use Rattle.clk_adjust.proofs.Sizes.{IsSmall, run_small}
 use Rattle.clk_adjust.proofs.Few.{few_readings}
 use Rattle.clk_adjust.proofs.Drawing.{draws_none, draws_both, readings_push, runs_made, run_of}
 
@@ -43,41 +44,6 @@ far_most zero few = omega arith
 far_most (suc zero) few = omega arith
 far_most (suc (suc zero)) few = omega arith
 far_most (suc (suc (suc n))) few = absurd (omega arith)
-
-pub record IsFar (n : ℕ) (z : ℤ) : Type 0 where
-  pub low : (pos 0 -ℤ pos n) ≤ℤ z
-  pub high : z ≤ℤ pos n
-
-far_near : (bits n : ℕ) (z : ℤ) → n ≤ 2 ^ bits → IsFar n z → IsNear bits z
-far_near bits n z few far = let low = far.low in let high = far.high in (omega (arith, ints), omega (arith, ints))
-
-adjustment_far : (n : ℕ) (run : WarpRun) → IsSmall n run → IsFar n (adjustment run)
-adjustment_far n run small = by_seen (nat_eq run.cur_target 0) where
-  by_seen : (b : Bool) → IsFar n (if b then neg_ℤ (pos run.max) else pos run.cur_target)
-  by_seen true = let max = small.max in record { low = omega (arith, ints); high = omega (arith, ints) }
-  by_seen false = let target = small.target in record { low = omega (arith, ints); high = omega (arith, ints) }
-
--- ---- the verdicts
-
--- the last run is not made again, and what is made again is made by the run's own adjustment
-pub record CallsAgain (left : ℕ) (more : ℤ) (run : WarpRun) : Type 0 where
-  pub more_is : more ≡ adjustment run
-  pub others : left ≡ 1 → ⊥
-
-pub calls_again : (left : ℕ) (more : ℤ) (run : WarpRun) → verdict_of run left ≡ verdict.Again more → CallsAgain left more run
-calls_again left more run e = by_falls (nat_eq run.nr 0) e where
-  by_last : (b c : Bool) → nat_eq left 1 ≡ b → (if b || c then verdict.Failed run.max run.random else verdict.Again (adjustment run)) ≡ verdict.Again more
-      → CallsAgain left more run
-  by_last true c last f = absurd (cc)
-  by_last false true last f = absurd (cc)
-  by_last false false last f =
-      record { more_is = cc; others = λ z. absurd (let t : nat_eq left 1 ≡ true = rw z refl in cc) }
-
-  by_falls : (b : Bool)
-      → (if b then verdict.Passed else (if nat_eq left 1 || ltb 0 run.random then verdict.Failed run.max run.random else verdict.Again (adjustment run))) ≡ verdict.Again more
-      → CallsAgain left more run
-  by_falls true f = absurd (cc)
-  by_falls false f = by_last (nat_eq left 1) (ltb 0 run.random) refl f
 
 -- ---- the runs so far
 

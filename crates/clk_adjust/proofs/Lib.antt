@@ -1,5 +1,3 @@
-pub mod Counters
-pub mod Sizes
 pub mod Few
 pub mod Drawing
 pub mod Going

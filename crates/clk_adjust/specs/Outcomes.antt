@@ -6,10 +6,10 @@ use Rattle.clk_ticket.specs.Time.{Time}
 use Rattle.clk_machine.specs.declared.parts.BringUpPart.{BringUpPart}
 use Rattle.clk_machine.specs.Plan.{Plan}
 use Rattle.clk_record.specs.declared.warp.WarpRun.{WarpRun}
-use Rattle.clk_warp.specs.Pairs.{DrawsFor}
 use Rattle.clk_record.specs.declared.up.CpuUp.{CpuUp}
 use Rattle.clk_record.specs.BroughtUp.{most_runs, IsUp}
 use Rattle.clk_record.specs.WarpReadings.{readings_in}
+use Rattle.clk_warp.specs.Pairs.{DrawsFor}
 
 -- the most runs of a CPU, none where no CPU is tested
 abbrev pub runs_of : Option BringUpPart → ℕ

@@ -5,10 +5,10 @@ use Rattle.clk_ticket.specs.Time.{Time}
 use Rattle.clk_machine.specs.declared.parts.BringUpPart.{BringUpPart}
 use Rattle.clk_machine.specs.Plan.{Plan, cpu_count}
 use Rattle.clk_record.specs.declared.warp.WarpRun.{WarpRun}
-use Rattle.clk_warp.specs.Run.{most_readings}
-use Rattle.clk_warp.specs.Pairs.{DrawsFor}
 use Rattle.clk_record.specs.BroughtUp.{most_runs, IsRunOfCpu}
 use Rattle.clk_record.specs.WarpReadings.{readings_in}
+use Rattle.clk_warp.specs.Run.{most_readings}
+use Rattle.clk_warp.specs.Pairs.{DrawsFor}
 
 -- the most that the test of a CPU draws, and those of all CPUs but the first
 abbrev pub cpu_tickets : Plan → Option BringUpPart → ℕ

@@ -3,9 +3,9 @@ ghost use Rattle.std.specs.Prelude.{◌≡◌, ◌+◌, ◌-◌, ◌<◌, ◌≤
 ghost use Rattle.std.specs.List.{All};
 ghost use Rattle.clk_num.specs.Range.{IsNear};
 ghost use Rattle.clk_machine.specs.Plan.{cpu_count};
-ghost use Rattle.clk_warp.specs.Pairs.{DrawsFor};
 ghost use Rattle.clk_record.specs.BroughtUp.{IsBroughtUp, failed_after as fails_after, test_of as test_by};
 ghost use Rattle.clk_record.specs.WarpReadings.{all_readings};
+ghost use Rattle.clk_warp.specs.Pairs.{DrawsFor};
 ghost use Rattle.clk_adjust.specs.Tickets.{cpu_tickets, up_tickets, HasDrawn};
 ghost use Rattle.clk_adjust.specs.Outcomes.{runs_of as runs_by, HasRoom, Brings};
 

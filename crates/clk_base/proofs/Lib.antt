@@ -3,3 +3,4 @@ pub mod Drawn
 pub mod Firsts
 pub mod Rising
 pub mod Walks
+pub mod Sent

@@ -4,19 +4,11 @@ use Rattle.std.specs.List.{All}
 use Rattle.std.proofs.lemmas.List.Elements.{All-nil, All-cons, All-head, All-tail}
 use Rattle.clk_base.specs.declared.block.Block.{Block}
 use Rattle.clk_base.specs.Blocks.{end_of, AllEndBy, Rises, RisesFrom, top_of}
-
--- what holds of two lists in a row holds of each
-all_front : {A : Type 0} (P : A → Type 0) (xs ys : List A) → All P (xs ++ ys) → All P xs
-all_front P [] ys h = All-nil P
-all_front P (x ∷ xs) ys h = All-cons P x xs (All-head P x (xs ++ ys) h) (all_front P xs ys (All-tail P x (xs ++ ys) h))
-
-all_back : {A : Type 0} (P : A → Type 0) (xs ys : List A) → All P (xs ++ ys) → All P ys
-all_back P [] ys h = h
-all_back P (x ∷ xs) ys h = all_back P xs ys (All-tail P x (xs ++ ys) h)
+use Rattle.clk_base.proofs.Walks.{all_both}
 
 pub rises_front : (bs cs : List Block) → Rises (bs ++ cs) → Rises bs
 rises_front [] cs h = tt
-rises_front (b ∷ bs) cs h = (all_front (λ (c : Block). end_of b ≤ c.first) bs cs h.0, rises_front bs cs h.1)
+rises_front (b ∷ bs) cs h = ((all_both (λ (c : Block). end_of b ≤ c.first) bs cs h.0).0, rises_front bs cs h.1)
 
 pub rises_back : (bs cs : List Block) → Rises (bs ++ cs) → Rises cs
 rises_back [] cs h = h
@@ -38,7 +30,7 @@ ends_none (c ∷ cs) = All-cons (λ (c : Block). AllEndBy c.first []) c cs (All-
 -- each block of the second list begins when those of the first have ended
 pub rises_apart : (bs cs : List Block) → Rises (bs ++ cs) → All (λ (c : Block). AllEndBy c.first bs) cs
 rises_apart [] cs h = ends_none cs
-rises_apart (b ∷ bs) cs h = ends_more b bs cs (all_back (λ (c : Block). end_of b ≤ c.first) bs cs h.0) (rises_apart bs cs h.1)
+rises_apart (b ∷ bs) cs h = ends_more b bs cs (all_both (λ (c : Block). end_of b ≤ c.first) bs cs h.0).1 (rises_apart bs cs h.1)
 
 -- blocks that rise, the first of them at n or above, each begin where the one before ended or above
 pub rises_from : (n : ℕ) (bs : List Block) → All (λ (b : Block). n ≤ b.first) bs → Rises bs → RisesFrom n bs

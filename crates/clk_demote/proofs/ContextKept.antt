@@ -8,21 +8,21 @@ use Rattle.clk_num.specs.Listed.{Listed}
 use Rattle.clk_num.specs.Range.{IsNear, IsFrom0To}
 use Rattle.clk_num.specs.Wrapping.{above}
 use Rattle.clk_ticket.specs.Time.{Time}
+use Rattle.clk_machine.specs.Plan.{Plan, cpu_count}
+use Rattle.clk_machine.specs.Records.{record_zero, base_of, above_base}
+use Rattle.clk_machine.specs.declared.reading.RawReading.{RawReading}
+use Rattle.clk_record.specs.declared.stable.StableStamp.{StableStamp}
+use Rattle.clk_record.specs.Demotions.{offset_by}
 use Rattle.clk_words.specs.declared.opening.Start.{Start}
 use Rattle.clk_words.specs.declared.view.View.{View}
 use Rattle.clk_words.specs.Bounds.{IsGtod, IsRaw, IsOffset}
 use Rattle.clk_words.specs.Held.{Held, place_of}
 use Rattle.clk_words.specs.Histories.{opens_at, has_lift}
-use Rattle.clk_machine.specs.Plan.{Plan, cpu_count}
-use Rattle.clk_machine.specs.Records.{record_zero, base_of, above_base}
-use Rattle.clk_machine.specs.declared.reading.RawReading.{RawReading}
 use Rattle.clk_latch.specs.Epoch.{Epoch}
 use Rattle.clk_local.specs.Context.{BeginsAtBase}
 use Rattle.clk_local.proofs.Raising.{raw_near, still_base}
 use Rattle.clk_demote.specs.declared.context.WatchCtx.{WatchCtx}
-use Rattle.clk_record.specs.declared.stable.StableStamp.{StableStamp}
 use Rattle.clk_demote.specs.Context.{IsUnlifted, IsUsable}
-use Rattle.clk_record.specs.Demotions.{offset_by}
 use Rattle.clk_demote.specs.Stamping.{ReadsAt, epoch_at}
 use Rattle.clk_demote.proofs.Shifting.{offset_near}
 

@@ -1,14 +1,14 @@
 -- What a demotion shows, put together from its stamp and from the end of the stable mode.
 use Rattle.std.proofs.Common.{◌≡◌, ℕ, ℤ, Some, ap, sym, ◌∙◌, subst}
-use Rattle.clk_words.specs.declared.view.View.{View}
-use Rattle.clk_words.specs.Knowing.{IsGood}
-use Rattle.clk_words.specs.Told.{published}
 use Rattle.clk_machine.specs.Plan.{cpu_count}
 use Rattle.clk_machine.specs.declared.reading.RawReading.{RawReading}
 use Rattle.clk_record.specs.declared.stable.Demotion.{Demotion}
 use Rattle.clk_record.specs.declared.stable.StableStamp.{StableStamp}
-use Rattle.clk_demote.specs.Context.{Site, Known}
 use Rattle.clk_record.specs.Demotions.{IsDemotion}
+use Rattle.clk_words.specs.declared.view.View.{View}
+use Rattle.clk_words.specs.Knowing.{IsGood}
+use Rattle.clk_words.specs.Told.{published}
+use Rattle.clk_demote.specs.Context.{Site, Known}
 use Rattle.clk_demote.specs.Lifts.{lifts_of, lifted}
 use Rattle.clk_demote.specs.Shows.{TakesStamp, ShowsStamp, ShowsDemotion}
 use Rattle.clk_demote.specs.Stamping.{with_pair, pair_stored, pairs_stored}

@@ -5,9 +5,9 @@ use mathlib.Core.Logic.{dite}
 use native.Mathlib.Decide.{ℕ_discrete}
 use Rattle.clk_num.specs.Listed.{Listed}
 use Rattle.clk_num.specs.Wrapping.{raise}
-use Rattle.clk_words.specs.declared.opening.Start.{Start}
 use Rattle.clk_record.specs.declared.step.Step.{Step}
 use Rattle.clk_record.specs.declared.step.Why.TheVariants.{Lift}
+use Rattle.clk_words.specs.declared.opening.Start.{Start}
 use Rattle.clk_words.specs.declared.view.View.{View}
 use Rattle.clk_words.specs.Calls.{step_of}
 use Rattle.clk_words.specs.Histories.{opens_at, value_after, is_lift, has_lift}

@@ -1,33 +1,15 @@
--- The opening of a demotion and the offset of a stable stamp, as clock values.
+-- The opening of a demotion and the offset of a stable stamp, in range and as the code takes them.
 use Rattle.std.proofs.Common.{◌≡◌, ℕ, ◌+◌, ◌-◌, ◌*◌, ◌%◌, ◌^◌, ℤ, ◌+ℤ◌, ◌-ℤ◌, ap, sym, ◌∙◌, subst, arith, w64, to_z, of_z}
 use Rattle.std.proofs.lemmas.Int.{ints, of_z-to_z}
 use Rattle.clk_num.specs.Range.{IsNear, IsFrom0To}
 use Rattle.clk_num.specs.Wrapping.{IsValue, wrap, above}
 use Rattle.clk_num.proofs.Wraps.{wrapped}
 use Rattle.clk_num.proofs.Heights.{wrap_fits, sum_is, difference_is}
-use Rattle.clk_words.specs.Bounds.{IsGtod, IsOffset, IsLiftValue}
 use Rattle.clk_record.specs.declared.stable.Demotion.{Demotion}
 use Rattle.clk_record.specs.declared.stable.StableStamp.{StableStamp}
-use Rattle.clk_record.specs.Demotions.{offset_by, IsDemotion, DemotionsShiftByDrift}
-
--- a sum that was wrapped already
-wrap_first : (a b : ℤ) → wrap (wrap a -ℤ b) ≡ wrap (a -ℤ b)
-wrap_first a b = omega (arith, ints, wrapped)
-
--- two ways from the stable stamp to the opening
-same_opening : (gtod raw sched stable_gtod stable_raw : ℤ)
-    → wrap (gtod +ℤ wrap ((stable_raw +ℤ sched) -ℤ stable_gtod)) ≡ wrap ((raw +ℤ sched) -ℤ wrap (above raw stable_raw -ℤ (gtod -ℤ stable_gtod)))
-same_opening gtod raw sched stable_gtod stable_raw = omega (arith, ints, wrapped)
-
-pub shift_by_drift : DemotionsShiftByDrift
-shift_by_drift sched_offset gtod_offset stable d is by =
-    is.opening_is
-    ∙ ap (λ x. wrap (d.gtod +ℤ x)) (is.gtod_offset_is ∙ by)
-    ∙ same_opening d.gtod d.raw.ns sched_offset stable.gtod stable.raw.ns
-    ∙ ap (λ (s : StableStamp). wrap ((d.raw.ns +ℤ sched_offset) -ℤ wrap (above d.raw.ns s.raw.ns -ℤ (d.gtod -ℤ s.gtod)))) (sym is.stable_is)
-    ∙ ap (λ x. wrap ((d.raw.ns +ℤ sched_offset) -ℤ x)) (sym is.drift_is)
-    ∙ ap (λ x. wrap ((d.raw.ns +ℤ x) -ℤ d.drift)) (sym is.sched_offset_is)
-    ∙ sym (wrap_first (d.raw.ns +ℤ d.sched_offset) d.drift)
+use Rattle.clk_record.specs.Demotions.{offset_by, IsDemotion}
+use Rattle.clk_record.proofs.Shifting.{wrap_first}
+use Rattle.clk_words.specs.Bounds.{IsGtod, IsOffset, IsLiftValue}
 
 -- the offset of a stable stamp is in the range of the words
 pub offset_near : (base opens raw sched gtod : ℤ) → IsFrom0To (2 ^ 57) (above opens base) → IsFrom0To (11 * 2 ^ 55) (above raw base) → IsNear 57 sched → IsGtod gtod

@@ -3,16 +3,16 @@ use Rattle.std.specs.Prelude.{◌≡◌, ℕ, ◌^◌, ◌<◌, ℤ, false, List
 use Rattle.std.specs.List.{AllZip}
 use Rattle.clk_num.specs.Range.{IsNear, IsFrom0To}
 use Rattle.clk_ticket.specs.Time.{Time}
+use Rattle.clk_machine.specs.Plan.{Plan, cpu_count}
+use Rattle.clk_machine.specs.Records.{above_base}
+use Rattle.clk_record.specs.declared.stable.StableStamp.{StableStamp}
+use Rattle.clk_record.specs.Demotions.{offset_by}
 use Rattle.clk_words.specs.declared.view.View.{View}
 use Rattle.clk_words.specs.Held.{place_of}
 use Rattle.clk_words.specs.Histories.{opens_at, has_lift}
-use Rattle.clk_machine.specs.Plan.{Plan, cpu_count}
-use Rattle.clk_machine.specs.Records.{above_base}
 use Rattle.clk_latch.specs.Epoch.{Epoch}
 use Rattle.clk_local.specs.Context.{BeginsAtBase}
 use Rattle.clk_demote.specs.declared.context.WatchCtx.{WatchCtx}
-use Rattle.clk_record.specs.declared.stable.StableStamp.{StableStamp}
-use Rattle.clk_record.specs.Demotions.{offset_by}
 
 -- what the watchdog's calls do not change: the machine, its CPUs' adjustments, and what a stable reading adds
 pub record Site : Type 0 where

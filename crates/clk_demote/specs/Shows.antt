@@ -3,20 +3,20 @@
 use Rattle.std.specs.Prelude.{◌≡◌, ℕ, ◌<◌, ℤ, pos, List, slice_index_or, Some}
 use Rattle.clk_num.specs.Wrapping.{raise}
 use Rattle.clk_ticket.specs.Time.{Time}
+use Rattle.clk_machine.specs.Plan.{cpu_count}
+use Rattle.clk_machine.specs.Time.{gtod_at}
+use Rattle.clk_machine.specs.declared.reading.RawReading.{RawReading}
+use Rattle.clk_record.specs.declared.stable.StableStamp.{StableStamp}
+use Rattle.clk_record.specs.declared.stable.Demotion.{Demotion}
+use Rattle.clk_record.specs.Demotions.{offset_by, IsDemotion}
 use Rattle.clk_words.specs.Bounds.{IsGtod, IsRaw}
 use Rattle.clk_words.specs.Histories.{opens_at}
 use Rattle.clk_words.specs.Knowing.{IsGood}
 use Rattle.clk_words.specs.Told.{offset_put, published}
-use Rattle.clk_machine.specs.Plan.{cpu_count}
-use Rattle.clk_machine.specs.Time.{gtod_at}
-use Rattle.clk_machine.specs.declared.reading.RawReading.{RawReading}
 use Rattle.clk_latch.specs.Epoch.{Epoch}
 use Rattle.clk_latch.specs.Calls.{DrawsTicket}
 use Rattle.clk_local.specs.Raising.{shown_on}
-use Rattle.clk_record.specs.declared.stable.StableStamp.{StableStamp}
-use Rattle.clk_record.specs.declared.stable.Demotion.{Demotion}
 use Rattle.clk_demote.specs.Context.{Site, Known}
-use Rattle.clk_record.specs.Demotions.{offset_by, IsDemotion}
 use Rattle.clk_demote.specs.Lifts.{lifts_of, lifted}
 use Rattle.clk_demote.specs.Stamping.{ReadsAt, HasPair, pair_stored, pairs_stored}
 

@@ -1,14 +1,14 @@
 //! The stable stamp and the demotion.
 ghost use Rattle.std.specs.Prelude.{◌≡◌, ◌+◌, ◌<◌, ◌≤◌, ◌++◌};
+ghost use Rattle.clk_machine.specs.Plan.{cpu_count};
+ghost use Rattle.clk_record.specs.Demotions.{OpensLessDrift};
 ghost use Rattle.clk_words.specs.Bounds.{IsGtod, IsRaw, IsOffset, IsLiftValue};
 ghost use Rattle.clk_words.specs.Held.{place_of};
 ghost use Rattle.clk_words.specs.Histories.{opens_at};
 ghost use Rattle.clk_words.specs.Told.{published};
 ghost use Rattle.clk_words.specs.Knowing.{IsGood, HasCloned, HasFoundPerCpu, HasLifted, MayDemote};
-ghost use Rattle.clk_machine.specs.Plan.{cpu_count};
 ghost use Rattle.clk_local.specs.Context.{Spends};
 ghost use Rattle.clk_demote.specs.Context.{site_of, known_of, IsSeated, IsUsable, Keeps, IsUnlifted};
-ghost use Rattle.clk_record.specs.Demotions.{OpensLessDrift};
 ghost use Rattle.clk_demote.specs.Stamping.{pairs_stored};
 ghost use Rattle.clk_demote.specs.Lifts.{lifts_of, lifted};
 ghost use Rattle.clk_demote.specs.Shows.{ShowsStamp, ShowsStableStamp, ShowsDemotion};

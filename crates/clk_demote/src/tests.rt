@@ -5,12 +5,12 @@ ghost use Rattle.clk_machine.specs.Limits.{most_tickets};
 ghost use Rattle.clk_machine.specs.Plan.{plan_of, cpu_count};
 ghost use Rattle.clk_machine.specs.Records.{record_zero};
 ghost use Rattle.clk_machine.specs.Short.{IsWellFormed};
-ghost use Rattle.clk_latch.specs.Calls.{IsRecordZero};
+ghost use Rattle.clk_record.specs.declared.mode.Mode.TheVariants.{Stable};
 ghost use Rattle.clk_words.specs.Held.{place_of};
 ghost use Rattle.clk_words.specs.Knowing.{IsReadingKind, MayDemote};
 ghost use Rattle.clk_words.specs.Views.{first_view, giver_view, given_view};
 ghost use Rattle.clk_words.specs.declared.kind.SeatKind.TheVariants.{Watch};
-ghost use Rattle.clk_record.specs.declared.mode.Mode.TheVariants.{Stable};
+ghost use Rattle.clk_latch.specs.Calls.{IsRecordZero};
 ghost use Rattle.clk_local.specs.Context.{BeginsAtBase};
 ghost use Rattle.clk_demote.specs.Context.{IsUsable};
 

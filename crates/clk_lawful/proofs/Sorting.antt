@@ -11,9 +11,9 @@ use Rattle.std.specs.Ordering.{ordering_then, is_lt, int_cmp, int_eq, bool_cmp, 
 use Rattle.std.proofs.lemmas.List.Sums.{sum_by-cons}
 use Rattle.std.proofs.lemmas.List.Elements.{All-nil, All-cons, All-head, All-tail}
 use Rattle.std.proofs.lemmas.List.Sorted.{sum_by-IsPermutation, All-permutation}
+use Rattle.clk_base.specs.Chains.{IsChainBy}
 use Rattle.clk_num.specs.Wrapping.{above}
 use Rattle.clk_num.proofs.Heights.{same_above}
-use Rattle.clk_base.specs.Chains.{IsChainBy}
 use Rattle.clk_lawful.specs.WordHistory.{is_flat, history_cmp}
 use Rattle.clk_lawful.specs.SortedHistory.{GoesUp, Change, change_of, SortedIsChain}
 use Rattle.clk_lawful.specs.declared.trace.HistoryStep.{HistoryStep}

@@ -2,9 +2,9 @@
 use Rattle.std.specs.Prelude.{◌≡◌, ℕ, ℤ, true, ◌&&◌, is_some, List, [], ◌∷◌, length, All, Some, None}
 use Rattle.clk_base.specs.Walk.{EachFrom}
 use Rattle.clk_num.specs.Wrapping.{raise}
+use Rattle.clk_machine.specs.Plan.{Plan, cpu_count}
 use Rattle.clk_record.specs.declared.step.Step.{Step}
 use Rattle.clk_record.specs.declared.step.Why.TheVariants.{Lift}
-use Rattle.clk_machine.specs.Plan.{Plan, cpu_count}
 use Rattle.clk_record.specs.declared.stable.StableStamp.{StableStamp}
 use Rattle.clk_record.specs.declared.stable.Demotion.{Demotion}
 use Rattle.clk_record.specs.Demotions.{offset_by, IsDemotion}

@@ -7,6 +7,7 @@ use Rattle.clk_num.specs.Wrapping.{wrap}
 use Rattle.clk_machine.specs.Plan.{Plan, cpu_count, threads_of}
 use Rattle.clk_machine.specs.Time.{counter_at}
 use Rattle.clk_record.specs.BroughtUp.{IsBroughtUp}
+use Rattle.clk_record.specs.declared.stable.Demotion.{Demotion}
 use Rattle.clk_lawful.specs.Threads.{owners, readers, reader_cpus}
 use Rattle.clk_lawful.specs.Lines.{step_line}
 use Rattle.clk_lawful.specs.ScriptEvents.{AreEventsOf}
@@ -20,7 +21,6 @@ use Rattle.clk_lawful.specs.LegalHistory.{ReachesTarget, NamesSource, IsLegalHis
 use Rattle.clk_lawful.specs.SeenBefore.{stood_at, NeverFalls}
 use Rattle.clk_lawful.specs.Watchdog.{AreChecks, AreCalledFor}
 use Rattle.clk_lawful.specs.Demoted.{HasDemotions}
-use Rattle.clk_record.specs.declared.stable.Demotion.{Demotion}
 use Rattle.clk_lawful.specs.declared.trace.WatchTrace.{WatchTrace}
 use Rattle.clk_lawful.specs.declared.trace.Trace.{Trace}
 

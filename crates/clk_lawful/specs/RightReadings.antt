@@ -8,14 +8,14 @@ use Rattle.clk_machine.specs.Records.{record_zero, IsRightReading}
 use Rattle.clk_machine.specs.declared.reading.Published.{Published}
 use Rattle.clk_record.specs.Attempts.{IsRightAttempt}
 use Rattle.clk_record.specs.declared.up.CpuUp.{CpuUp}
+use Rattle.clk_record.specs.declared.stable.StableStamp.{StableStamp}
+use Rattle.clk_record.specs.declared.stable.Demotion.{Demotion}
 use Rattle.clk_lawful.specs.Threads.{owners, readers}
 use Rattle.clk_lawful.specs.Checks.{Visit, Check, listed, pause_of, watch_blocks, checks_in}
 use Rattle.clk_lawful.specs.TicketOrder.{first_blocks, thread_blocks, IsTicketOrder}
 use Rattle.clk_lawful.specs.Updates.{records_of, OwnsRecords, record_after, NamesLater, named_after}
 use Rattle.clk_lawful.specs.declared.event.EventKind.{EventKind}
 use Rattle.clk_lawful.specs.declared.event.EventKind.TheVariants.{Stable, Local, Couple, Stamp, Nothing, Update, Pause}
-use Rattle.clk_record.specs.declared.stable.StableStamp.{StableStamp}
-use Rattle.clk_record.specs.declared.stable.Demotion.{Demotion}
 use Rattle.clk_lawful.specs.declared.trace.Trace.{Trace}
 
 -- what the bring-up adjusted a CPU's counter by, in cycles; CPU 0 has no entry

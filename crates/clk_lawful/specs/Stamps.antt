@@ -1,11 +1,11 @@
 -- The stamps of a CPU, and how per-CPU readings name them.
 use Rattle.std.specs.Prelude.{◌≡◌, ℕ, ◌+◌, max, ℤ, pos, ◌&&◌, nat_le, List, [], ◌∷◌, map, flat_map, if◌then◌else◌, Option, Some, None, option_map, option_and_then, unwrap_or, IsSome}
 use Rattle.std.specs.Ordering.{int_eq}
+use Rattle.clk_record.specs.declared.stable.StableStamp.{StableStamp}
+use Rattle.clk_record.specs.declared.stable.Demotion.{Demotion}
 use Rattle.clk_lawful.specs.Threads.{own_events}
 use Rattle.clk_lawful.specs.declared.event.EventKind.{EventKind}
 use Rattle.clk_lawful.specs.declared.event.EventKind.TheVariants.{Stable, Local, Couple, Stamp, Nothing, Update, Pause}
-use Rattle.clk_record.specs.declared.stable.StableStamp.{StableStamp}
-use Rattle.clk_record.specs.declared.stable.Demotion.{Demotion}
 use Rattle.clk_lawful.specs.Standing.{demotion_of}
 use Rattle.clk_lawful.specs.declared.trace.Trace.{Trace}
 

@@ -5,11 +5,11 @@ use Rattle.clk_base.specs.Blocks.{Covers, RisesFrom, top_of}
 use Rattle.clk_num.specs.Listed.{Listed}
 use Rattle.clk_record.specs.WarpReadings.{all_readings}
 use Rattle.clk_record.specs.declared.up.CpuUp.{CpuUp}
+use Rattle.clk_record.specs.declared.stable.StableStamp.{StableStamp}
 use Rattle.clk_lawful.specs.Checks.{listed, one, stamp_blocks, demotion_blocks}
 use Rattle.clk_lawful.specs.declared.event.Event.{Event}
 use Rattle.clk_lawful.specs.declared.event.EventKind.{EventKind}
 use Rattle.clk_lawful.specs.declared.event.EventKind.TheVariants.{Stable, Local, Couple, Stamp, Nothing, Update, Pause}
-use Rattle.clk_record.specs.declared.stable.StableStamp.{StableStamp}
 use Rattle.clk_lawful.specs.declared.trace.Trace.{Trace}
 
 -- what an event drew, in its order

@@ -6,12 +6,12 @@ use Rattle.clk_record.specs.Verdicts.{verdict_of}
 use Rattle.clk_record.specs.declared.warp.WarpRun.{WarpRun}
 use Rattle.clk_record.specs.declared.step.Step.{Step}
 use Rattle.clk_record.specs.declared.up.CpuUp.{CpuUp}
+use Rattle.clk_record.specs.declared.stable.StableStamp.{StableStamp}
+use Rattle.clk_record.specs.declared.stable.Demotion.{Demotion}
 use Rattle.clk_lawful.specs.Lines.{Line, step_line, text_of}
 use Rattle.clk_lawful.specs.Lines.Line.{Head, Epoch, Boot, Start, Run, Turn, Done, Cpu, Demoted, Word, Thread, Shown, Watchdog, Checking, Attempted, Judged, Stamped, Lifted, Current, History, End}
 use Rattle.clk_lawful.specs.Checks.{Visit, Check, listed, checks_of}
 use Rattle.clk_lawful.specs.declared.event.Event.{Event}
-use Rattle.clk_record.specs.declared.stable.StableStamp.{StableStamp}
-use Rattle.clk_record.specs.declared.stable.Demotion.{Demotion}
 use Rattle.clk_lawful.specs.declared.trace.HistoryStep.{HistoryStep}
 use Rattle.clk_lawful.specs.declared.trace.WatchTrace.{WatchTrace}
 use Rattle.clk_lawful.specs.declared.trace.Trace.{Trace}

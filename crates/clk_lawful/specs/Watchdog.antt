@@ -4,7 +4,7 @@ use Rattle.std.specs.List.{AllZip}
 use Rattle.clk_machine.specs.Plan.{Plan, threads_of}
 use Rattle.clk_record.specs.declared.visit.SourceRecord.{SourceRecord}
 use Rattle.clk_record.specs.Fold.{ends_check, at_first, watch_after, ratings_of, IsCurrent, AreVisits}
-use Rattle.clk_record.specs.ChecksAsked.{checks_asked}
+use Rattle.clk_record.specs.Watching.{checks_asked}
 use Rattle.clk_lawful.specs.Checks.{listed, visits_of, checks_of}
 use Rattle.clk_lawful.specs.declared.trace.WatchTrace.{WatchTrace}
 

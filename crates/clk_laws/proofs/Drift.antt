@@ -10,7 +10,7 @@ use Rattle.clk_machine.specs.Plan.{Plan}
 use Rattle.clk_record.specs.declared.stable.StableStamp.{StableStamp}
 use Rattle.clk_record.specs.declared.stable.Demotion.{Demotion}
 use Rattle.clk_record.specs.Demotions.{OpensLessDrift}
-use Rattle.clk_demote.proofs.Shifting.{shift_by_drift}
+use Rattle.clk_record.proofs.Shifting.{shift_by_drift}
 use Rattle.clk_lawful.specs.Checks.{Visit, listed, visits_of}
 use Rattle.clk_lawful.specs.Standing.{is_stable, demotion_by, begins_stable, either_demotion}
 use Rattle.clk_lawful.specs.Stamps.{Pair, boot_pair, last_pair, no_pair}

@@ -12,9 +12,9 @@ use Rattle.clk_base.specs.Walk.{EachFrom}
 use Rattle.clk_num.specs.Listed.{Listed}
 use Rattle.clk_num.specs.Wrapping.{above, IsNotBelow}
 use Rattle.clk_num.proofs.Heights.{above_same, raise_rises}
+use Rattle.clk_machine.specs.Plan.{Plan}
 use Rattle.clk_record.specs.declared.step.Step.{Step}
 use Rattle.clk_record.specs.Targets.{target}
-use Rattle.clk_machine.specs.Plan.{Plan}
 use Rattle.clk_lawful.specs.LawfulTrace.{IsLawful}
 use Rattle.clk_lawful.specs.LegalHistory.{ReachesTarget, IsLegalHistory}
 use Rattle.clk_lawful.specs.Lines.{Line, step_line}

@@ -6,10 +6,15 @@ use mathlib.Core.List.{IsPrefix}
 use Rattle.clk_num.specs.Range.{IsFrom0To}
 use Rattle.clk_num.specs.Wrapping.{above, IsNotBelow, raise}
 use Rattle.clk_num.proofs.Wraps.{wrapped}
-use Rattle.clk_words.specs.declared.opening.Start.{Start}
+use Rattle.clk_machine.specs.Plan.{Plan}
+use Rattle.clk_machine.specs.Records.{record_zero, base_of, above_base}
+use Rattle.clk_machine.specs.declared.reading.Published.{Published}
+use Rattle.clk_machine.specs.declared.reading.RawReading.{RawReading}
 use Rattle.clk_record.specs.declared.step.Step.{Step}
 use Rattle.clk_record.specs.declared.step.Why.{Why}
 use Rattle.clk_record.specs.declared.step.Why.TheVariants.{Raise}
+use Rattle.clk_record.specs.Targets.{target}
+use Rattle.clk_words.specs.declared.opening.Start.{Start}
 use Rattle.clk_words.specs.declared.view.View.{View}
 use Rattle.clk_words.specs.declared.view.Name.TheVariants.{Gtod, Raw}
 use Rattle.clk_words.specs.Bounds.{IsRaw}
@@ -18,14 +23,9 @@ use Rattle.clk_words.specs.Histories.{opens_at, IsGlobalHistory}
 use Rattle.clk_words.specs.Kinds.{cpu_of}
 use Rattle.clk_words.specs.Knowing.{HasLoaded, IsTrusted}
 use Rattle.clk_words.specs.Parts.{gtod_of, raw_of}
-use Rattle.clk_record.specs.Targets.{target}
 use Rattle.clk_words.specs.Told.{Raises, FindsRaw, FindsGtod, FindsOffset}
 use Rattle.clk_words.proofs.Loading.{loaded_stamp, kept_stamp, kept_offset, trusted_half}
 use Rattle.clk_words.proofs.Replay.{words_rise, follow_front}
-use Rattle.clk_machine.specs.Plan.{Plan}
-use Rattle.clk_machine.specs.Records.{record_zero, base_of, above_base}
-use Rattle.clk_machine.specs.declared.reading.Published.{Published}
-use Rattle.clk_machine.specs.declared.reading.RawReading.{RawReading}
 use Rattle.clk_latch.specs.Calls.{Reads}
 use Rattle.clk_latch.specs.Epoch.{Epoch}
 use Rattle.clk_local.specs.Context.{BeginsAtBase}

@@ -2,12 +2,14 @@
 use Rattle.std.proofs.Common.{◌≡◌, ℕ, ℤ, ◌⊎◌, inl, inr, IsTrue, true, List, [], ◌∷◌, ◌++◌, sym, ap, ◌∙◌, subst, Some, arith, append_assoc, append-nil}
 use Rattle.clk_num.specs.Wrapping.{IsNotBelow, raise}
 use Rattle.clk_num.proofs.Heights.{raise_rises}
-use Rattle.clk_words.specs.declared.opening.Start.{Start}
+use Rattle.clk_machine.specs.declared.reading.RawReading.{RawReading}
 use Rattle.clk_record.specs.declared.mode.Mode.{Mode}
 use Rattle.clk_record.specs.declared.mode.Mode.TheVariants.{PerCpu as PerCpuMode}
 use Rattle.clk_record.specs.declared.step.Step.{Step}
 use Rattle.clk_record.specs.declared.step.Why.{Why}
 use Rattle.clk_record.specs.declared.step.Why.TheVariants.{Raise}
+use Rattle.clk_record.specs.Targets.{target}
+use Rattle.clk_words.specs.declared.opening.Start.{Start}
 use Rattle.clk_words.specs.declared.view.View.{View}
 use Rattle.clk_words.specs.declared.view.Load.{Load}
 use Rattle.clk_words.specs.declared.view.Name.{Name}
@@ -19,12 +21,10 @@ use Rattle.clk_words.specs.Calls.{KeepsSeat}
 use Rattle.clk_words.specs.Knowing.{IsOwner, StampsAreWhole}
 use Rattle.clk_words.specs.Parts.{gtod_of, raw_of, part_of, last_from}
 use Rattle.clk_words.specs.Rights.{has_number}
-use Rattle.clk_record.specs.Targets.{target}
 use Rattle.clk_words.specs.Told.{Raises, Finds, FindsRaw, FindsGtod, FindsOffset, stamped}
 use Rattle.clk_words.proofs.Loading.{whole_offset}
 use Rattle.clk_words.proofs.Registers.{put_here, put_else, last_more}
 use Rattle.clk_words.proofs.Turns.{whole_gtod, whole_raw, owner_gtod, owner_raw}
-use Rattle.clk_machine.specs.declared.reading.RawReading.{RawReading}
 use Rattle.clk_latch.specs.Calls.{DrawsTicket, Reads}
 use Rattle.clk_local.specs.declared.events.Reading.{Reading}
 use Rattle.clk_local.specs.declared.events.Reading.TheVariants.{Stable, PerCpu}

@@ -4,11 +4,11 @@ use Rattle.clk_num.specs.Wrapping.{raise}
 use Rattle.clk_record.specs.declared.step.Step.{Step}
 use Rattle.clk_record.specs.declared.step.Why.{Why}
 use Rattle.clk_record.specs.declared.step.Why.TheVariants.{Raise}
+use Rattle.clk_record.specs.Targets.{target}
 use Rattle.clk_words.specs.declared.view.View.{View}
 use Rattle.clk_words.specs.Calls.{step_of}
 use Rattle.clk_words.specs.Histories.{opens_at, value_after}
 use Rattle.clk_words.specs.Kinds.{cpu_of}
-use Rattle.clk_record.specs.Targets.{target}
 use Rattle.clk_words.specs.Told.{FindsRaw, FindsGtod, FindsOffset}
 
 -- the pair of the seat's CPU: its raw value first, then its GTOD

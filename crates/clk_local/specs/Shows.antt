@@ -4,6 +4,8 @@
 use Rattle.std.specs.Prelude.{◌≡◌, ℕ, ℤ, ◌+ℤ◌, [], ◌∷◌, ◌++◌}
 use Rattle.clk_num.specs.Wrapping.{wrap, IsNotBelow}
 use Rattle.clk_ticket.specs.Time.{Time}
+use Rattle.clk_machine.specs.declared.reading.RawReading.{RawReading}
+use Rattle.clk_machine.specs.Time.{gtod_at}
 use Rattle.clk_record.specs.declared.mode.Mode.{Mode}
 use Rattle.clk_record.specs.declared.mode.Mode.TheVariants.{Stable as StableMode, PerCpu as PerCpuMode}
 use Rattle.clk_record.specs.declared.step.Step.{Step}
@@ -13,8 +15,6 @@ use Rattle.clk_words.specs.declared.view.Name.TheVariants.{Raw, Gtod, Offset}
 use Rattle.clk_words.specs.Bounds.{IsGtod}
 use Rattle.clk_words.specs.Parts.{gtod_of, raw_of}
 use Rattle.clk_words.specs.Told.{Raises, FindsMode, FindsOffset, stamped}
-use Rattle.clk_machine.specs.declared.reading.RawReading.{RawReading}
-use Rattle.clk_machine.specs.Time.{gtod_at}
 use Rattle.clk_latch.specs.Calls.{DrawsTicket, Reads}
 use Rattle.clk_local.specs.declared.events.Reading.{Reading}
 use Rattle.clk_local.specs.declared.events.Reading.TheVariants.{Stable, PerCpu}

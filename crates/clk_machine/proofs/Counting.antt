@@ -1,5 +1,5 @@
 -- Words and tickets of scripts, after their repeats.
-use Rattle.std.proofs.Common.{◌≡◌, ℕ, zero, suc, ◌+◌, ◌*◌, ◌^◌, ◌<◌, ◌≤◌, List, [], ◌∷◌, length, get_or, take, map, refl, sym, ◌∙◌, ap, arith, length-append}
+use Rattle.std.proofs.Common.{◌≡◌, ℕ, zero, suc, ◌+◌, ◌*◌, ◌<◌, ◌≤◌, List, [], ◌∷◌, length, get_or, take, map, refl, sym, ◌∙◌, ap, arith, length-append}
 use Rattle.std.specs.List.{sum_by, repeat, enumerate_from}
 use Rattle.std.proofs.Math.Nat.{mul-le-mul_left, mul-le-mul_right}
 use Rattle.std.proofs.lemmas.List.{get_or-map, length-map, take_more}
@@ -7,7 +7,7 @@ use Rattle.std.proofs.lemmas.List.Sums.{sum_by-cons, sum_by-append, sum_by_push,
 use Rattle.clk_machine.specs.declared.script.Word.{Word}
 use Rattle.clk_machine.specs.declared.script.Word.TheVariants.{Local, Remote, Tick, Idle, Update, Pause}
 use Rattle.clk_machine.specs.Plan.{Plan, ScriptPlan, CpuPlan, ReaderPlan, count_of, all_words, threads_of, thread_at}
-use Rattle.clk_machine.specs.Limits.{longest_pause, IsInRange, IsScript}
+use Rattle.clk_machine.specs.Limits.{IsInRange, IsScript}
 use Rattle.clk_machine.specs.Ranges.{script_length}
 use Rattle.clk_machine.specs.Tickets.{tickets_of, word_tickets, tickets_needed}
 use Rattle.clk_machine.specs.Tested.{HasCount, IsRunnable, script_tickets}

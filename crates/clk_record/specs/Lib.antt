@@ -1,13 +1,14 @@
 pub mod Sides
 pub mod Falls
+pub mod FallLaws
 pub mod Warps
 pub mod Verdicts
 pub mod WarpLimits
 pub mod BroughtUp
 pub mod WarpReadings
 pub mod Attempts
-pub mod ChecksAsked
 pub mod Fold
+pub mod Watching
 pub mod Demotions
 pub mod Targets
 pub mod LowerWord

@@ -3,28 +3,28 @@
 use Rattle.std.proofs.Common.{◌≡◌, ℕ, ℤ, Bool, true, false, cond, List, [], ◌∷◌, ◌++◌, refl, sym, ap, ◌∙◌, subst, append_assoc, append-nil}
 use Rattle.clk_num.specs.Wrapping.{IsNotBelow, raise}
 use Rattle.clk_num.proofs.Heights.{raise_rises}
-use Rattle.clk_words.specs.declared.opening.Start.{Start}
+use Rattle.clk_machine.specs.declared.reading.RawReading.{RawReading}
 use Rattle.clk_record.specs.declared.step.Step.{Step}
 use Rattle.clk_record.specs.declared.step.Why.{Why}
 use Rattle.clk_record.specs.declared.step.Why.TheVariants.{Couple}
+use Rattle.clk_record.specs.Targets.{target}
+use Rattle.clk_record.specs.LowerWord.{is_lower, lower_word}
+use Rattle.clk_words.specs.declared.opening.Start.{Start}
 use Rattle.clk_words.specs.declared.view.View.{View}
 use Rattle.clk_words.specs.declared.view.Load.{Load}
 use Rattle.clk_words.specs.declared.view.Name.TheVariants.{Clock}
 use Rattle.clk_words.specs.Calls.{step_of, KeepsSeat}
 use Rattle.clk_words.specs.Histories.{opens_at, value_after, IsGlobalHistory, NamesHeld}
 use Rattle.clk_words.specs.Knowing.{HasLoaded, IsGood, IsTrusted}
-use Rattle.clk_record.specs.Targets.{target}
 use Rattle.clk_words.specs.Told.{Loads, Raises}
 use Rattle.clk_words.proofs.Loading.{kept_both, kept_clock, loaded_clock, still_clock}
 use Rattle.clk_words.proofs.Replay.{had_here, had_more, words_rise, follow_front, value_here}
-use Rattle.clk_machine.specs.declared.reading.RawReading.{RawReading}
 use Rattle.clk_local.specs.declared.events.Reading.TheVariants.{PerCpu}
 use Rattle.clk_local.specs.Context.{Site, Known, MayStamp}
 use Rattle.clk_local.specs.Raising.{shown_on}
 use Rattle.clk_local.specs.Shows.{ShowsReading}
 use Rattle.clk_remote.specs.declared.event.RemoteEvent.TheVariants.{Coupled}
 use Rattle.clk_remote.specs.Coupling.{higher_value, coupling, coupling_step}
-use Rattle.clk_record.specs.LowerWord.{is_lower, lower_word}
 use Rattle.clk_remote.specs.Shows.{ShowsCoupling, ShowsRemote}
 
 -- ---- the two loads

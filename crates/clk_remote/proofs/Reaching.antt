@@ -3,15 +3,15 @@ use Rattle.std.proofs.Common.{◌≡◌, ℕ, ℤ, pos, Bool, true, false, cond,
 use Rattle.std.proofs.lemmas.Int.{ints}
 use Rattle.clk_num.specs.Wrapping.{above, IsNotBelow, raise}
 use Rattle.clk_num.proofs.Heights.{above_same, above_is, raise_reaches, not_below_after}
-use Rattle.clk_words.specs.declared.opening.Start.{Start}
 use Rattle.clk_record.specs.declared.step.Step.{Step}
+use Rattle.clk_record.specs.LowerWord.{is_lower}
+use Rattle.clk_words.specs.declared.opening.Start.{Start}
 use Rattle.clk_words.specs.declared.view.View.{View}
 use Rattle.clk_words.specs.Bounds.{IsClock}
 use Rattle.clk_words.specs.Histories.{opens_at, value_after}
 use Rattle.clk_words.proofs.Replay.{clock_near, legal_range}
 use Rattle.clk_local.specs.Context.{Site, Known}
 use Rattle.clk_remote.specs.Coupling.{higher_value}
-use Rattle.clk_record.specs.LowerWord.{is_lower}
 use Rattle.clk_remote.specs.Shows.{ShowsCoupling}
 use Rattle.clk_remote.specs.Laws.{ReachesBoth}
 use Rattle.clk_remote.proofs.Coupling.{shown_after}

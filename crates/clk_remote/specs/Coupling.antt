@@ -4,9 +4,9 @@ use Rattle.clk_num.specs.Wrapping.{raise}
 use Rattle.clk_record.specs.declared.step.Step.{Step}
 use Rattle.clk_record.specs.declared.step.Why.{Why}
 use Rattle.clk_record.specs.declared.step.Why.TheVariants.{Couple}
+use Rattle.clk_record.specs.LowerWord.{is_lower, lower_word}
 use Rattle.clk_words.specs.declared.view.View.{View}
 use Rattle.clk_words.specs.Calls.{step_of}
-use Rattle.clk_record.specs.LowerWord.{is_lower, lower_word}
 
 -- why it is raised: the other word, and what that held
 abbrev pub coupling : ℕ → ℕ → ℤ → ℤ → Why

@@ -1,21 +1,21 @@
 -- What a remote read shows, as the event of a trace does: told of what the thread's seats had before it and after it.
 use Rattle.std.specs.Prelude.{◌≡◌, ℕ, ℤ, [], ◌∷◌, ◌++◌}
 use Rattle.clk_num.specs.Wrapping.{IsNotBelow}
+use Rattle.clk_machine.specs.declared.reading.RawReading.{RawReading}
 use Rattle.clk_record.specs.declared.mode.Mode.{Mode}
 use Rattle.clk_record.specs.declared.mode.Mode.TheVariants.{Stable as StableMode, PerCpu as PerCpuMode}
 use Rattle.clk_record.specs.declared.step.Step.{Step}
+use Rattle.clk_record.specs.LowerWord.{lower_value}
 use Rattle.clk_words.specs.declared.view.View.{View}
 use Rattle.clk_words.specs.declared.view.Name.TheVariants.{Clock}
 use Rattle.clk_words.specs.Histories.{NamesHeld}
 use Rattle.clk_words.specs.Told.{Loads, Raises}
-use Rattle.clk_machine.specs.declared.reading.RawReading.{RawReading}
 use Rattle.clk_local.specs.Context.{Site, Known}
 use Rattle.clk_local.specs.Raising.{shown_on}
 use Rattle.clk_local.specs.Shows.{ShowsLook, ShowsStable, ShowsRaised}
 use Rattle.clk_remote.specs.declared.event.RemoteEvent.{RemoteEvent}
 use Rattle.clk_remote.specs.declared.event.RemoteEvent.TheVariants.{Stable, Coupled}
 use Rattle.clk_remote.specs.Coupling.{coupling_step}
-use Rattle.clk_record.specs.LowerWord.{lower_value}
 
 -- both words: the own one, and then that of the CPU asked
 pub record LoadsBoth (v : View) (cpu asked : ℕ) (own other : ℤ) (w : View) : Type 0 where

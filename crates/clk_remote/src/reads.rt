@@ -1,9 +1,9 @@
 //! The remote read.
 ghost use Rattle.std.specs.Prelude.{◌≡◌, ◌≢◌, ◌<◌, ◌≤◌};
+ghost use Rattle.clk_record.specs.LowerWord.{lower_word};
 ghost use Rattle.clk_words.specs.Knowing.{HasFoundPerCpu};
 ghost use Rattle.clk_local.specs.Context.{site_of, known_of, IsUsable, Keeps, Spends};
 ghost use Rattle.clk_remote.specs.Coupling.{coupling};
-ghost use Rattle.clk_record.specs.LowerWord.{lower_word};
 ghost use Rattle.clk_remote.specs.Shows.{ShowsCoupling, ShowsRemote};
 
 use crate::event::RemoteEvent;

@@ -6,6 +6,11 @@ use Rattle.std.proofs.lemmas.List.Elements.{All-nil}
 use Rattle.clk_num.specs.Listed.{Listed}
 use Rattle.clk_num.specs.Range.{IsNear, IsFrom0To}
 use Rattle.clk_ticket.specs.Time.{Time, share_of}
+use Rattle.clk_machine.specs.Plan.{Plan, cpu_count, thread_at, threads_of}
+use Rattle.clk_machine.specs.Records.{above_base, record_zero}
+use Rattle.clk_record.specs.declared.up.CpuUp.{CpuUp}
+use Rattle.clk_record.specs.declared.stable.StableStamp.{StableStamp}
+use Rattle.clk_record.specs.declared.stable.Demotion.{Demotion}
 use Rattle.clk_words.specs.declared.kind.SeatKind.{SeatKind}
 use Rattle.clk_words.specs.declared.opening.Opening.{Opening}
 use Rattle.clk_words.specs.declared.opening.Start.{Start}
@@ -15,28 +20,23 @@ use Rattle.clk_words.specs.Held.{Place, Held}
 use Rattle.clk_words.specs.Histories.{opens_at}
 use Rattle.clk_words.specs.Parts.{part_of, gtod_of, raw_of}
 use Rattle.clk_words.specs.Views.{is_percpu, pairs_known, first_view, given_view}
-use Rattle.clk_machine.specs.Plan.{Plan, cpu_count, thread_at, threads_of}
-use Rattle.clk_machine.specs.Records.{above_base, record_zero}
+use Rattle.clk_lawful.specs.RightReadings.{adjust_in}
+use Rattle.clk_lawful.specs.declared.event.Event.{Event}
 use Rattle.clk_latch.specs.Epoch.{Epoch}
 use Rattle.clk_latch.specs.Epoch.{Place as LatchPlace}
 use Rattle.clk_local.specs.Context.{MayStamp}
-use Rattle.clk_record.specs.declared.up.CpuUp.{CpuUp}
-use Rattle.clk_lawful.specs.RightReadings.{adjust_in}
-use Rattle.clk_lawful.specs.declared.event.Event.{Event}
 use Rattle.clk_worker.specs.declared.own.Own.{Own}
 use Rattle.clk_worker.specs.declared.own.Post.{Post}
 use Rattle.clk_worker.specs.Making.{Hand, FitTogether, SeatsServe, MayBegin}
 use Rattle.clk_worker.specs.Running.{IsSound, OwnsClock}
 use Rattle.clk_worker.specs.Calling.{site_at, has}
 use Rattle.clk_worker.proofs.RunFirst.{HasGiven, given_none, given_more}
-use Rattle.clk_record.specs.declared.stable.StableStamp.{StableStamp}
-use Rattle.clk_record.specs.declared.stable.Demotion.{Demotion}
 use Rattle.clk_threads.specs.Booting.{sched_offset_of, AreStamps, IsDemotedAtBootBy}
 use Rattle.clk_threads.specs.Preparing.{start_of, kind_on, gave, thread_seat, thread_seats, epoch_on, IsOfLatch, IsLatchSeat, time_seat, no_events, IsPrepared}
 use Rattle.clk_threads.specs.Workers.{post_of, fresh_hand, IsOfSeats}
 use Rattle.clk_threads.specs.Parts.{seats_of, shared_of}
 use Rattle.clk_threads.specs.declared.prepared.Prepared.{Prepared}
-use Rattle.clk_threads.proofs.Bringing.{adjust_after, adjust_at}
+use Rattle.clk_threads.proofs.Adjusting.{adjust_after, adjust_at}
 use Rattle.clk_threads.proofs.Built.{built_at}
 use Rattle.clk_threads.proofs.Giving.{gave_start}
 use Rattle.clk_threads.proofs.LawfulLists.{thread_cpu}

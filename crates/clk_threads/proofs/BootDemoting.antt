@@ -8,23 +8,23 @@ use Rattle.clk_base.specs.Blocks.{end_of, AllEndBy}
 use Rattle.clk_num.specs.Range.{IsFrom0To}
 use Rattle.clk_ticket.specs.Sizes.{size_of}
 use Rattle.clk_ticket.specs.Time.{Tickets, Time}
-use Rattle.clk_words.specs.Bounds.{IsGtod, IsOpening}
 use Rattle.clk_machine.specs.Plan.{Plan}
 use Rattle.clk_machine.specs.Limits.{most_tickets, IsWithinLimits}
 use Rattle.clk_machine.specs.Records.{record_zero, above_base, base_of, AreRecords}
 use Rattle.clk_machine.specs.Tickets.{word_tickets, watch_tickets}
 use Rattle.clk_machine.proofs.Bounds.{gtod_small}
 use Rattle.clk_machine.proofs.Readings.{first_readings_are_small}
-use Rattle.clk_latch.specs.Epoch.{Epoch}
 use Rattle.clk_record.specs.declared.up.CpuUp.{CpuUp}
 use Rattle.clk_record.specs.declared.up.BroughtUp.{BroughtUp}
+use Rattle.clk_record.specs.declared.stable.StableStamp.{StableStamp}
+use Rattle.clk_record.specs.declared.stable.Demotion.{Demotion}
+use Rattle.clk_record.specs.Demotions.{IsDemotion}
+use Rattle.clk_words.specs.Bounds.{IsGtod, IsOpening}
 use Rattle.clk_lawful.specs.Checks.{one}
 use Rattle.clk_lawful.specs.TicketOrder.{boot_blocks, up_blocks}
 use Rattle.clk_lawful.specs.Demoted.{boot_stamp}
 use Rattle.clk_lawful.specs.RightReadings.{IsRightStamp}
-use Rattle.clk_record.specs.declared.stable.StableStamp.{StableStamp}
-use Rattle.clk_record.specs.declared.stable.Demotion.{Demotion}
-use Rattle.clk_record.specs.Demotions.{IsDemotion}
+use Rattle.clk_latch.specs.Epoch.{Epoch}
 use Rattle.clk_threads.specs.Booting.{HasStamped, gtod_offset_of, sched_offset_of, opening_of, AreStamps, IsBootDemotion, IsDemotedAtBootBy, HasDrawnFirst, HasDrawnBefore, IsBootedFor, IsDemotedFor}
 use Rattle.clk_threads.specs.declared.booted.Booted.{Booted}
 use Rattle.clk_threads.proofs.Lasts.{some_stamps}

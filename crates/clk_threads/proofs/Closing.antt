@@ -13,12 +13,15 @@ use mathlib.Core.List.{IsPrefix}
 use Rattle.clk_base.specs.declared.block.Block.{Block}
 use Rattle.clk_base.specs.Blocks.{Covers}
 use Rattle.clk_base.specs.Walk.{EachFrom}
+use Rattle.clk_base.proofs.Walks.{each_from}
 use Rattle.clk_num.specs.Listed.{Listed}
 use Rattle.clk_ticket.specs.Time.{Time, share_of}
-use Rattle.clk_words.specs.declared.kind.SeatKind.TheVariants.{Watch}
+use Rattle.clk_machine.specs.declared.reading.Published.{Published}
+use Rattle.clk_machine.specs.Plan.{Plan, cpu_count, threads_of}
 use Rattle.clk_record.specs.declared.mode.Mode.TheVariants.{Stable, PerCpu}
-use Rattle.clk_words.specs.declared.opening.Start.{Start}
 use Rattle.clk_record.specs.declared.step.Step.{Step}
+use Rattle.clk_words.specs.declared.kind.SeatKind.TheVariants.{Watch}
+use Rattle.clk_words.specs.declared.opening.Start.{Start}
 use Rattle.clk_words.specs.declared.view.View.{View}
 use Rattle.clk_words.specs.Calls.{IsComplete}
 use Rattle.clk_words.specs.Fronts.{Begins}
@@ -27,13 +30,6 @@ use Rattle.clk_words.specs.Knowing.{HasAll}
 use Rattle.clk_words.specs.Rights.{has_number}
 use Rattle.clk_words.specs.Views.{own_lists, first_view, giver_view}
 use Rattle.clk_words.proofs.Fronts.{begins_through}
-use Rattle.clk_latch.specs.Epoch.{Epoch}
-use Rattle.clk_latch.specs.Epoch.{Place as LatchPlace}
-use Rattle.clk_machine.specs.declared.reading.Published.{Published}
-use Rattle.clk_machine.specs.Plan.{Plan, cpu_count, threads_of}
-use Rattle.clk_demote.specs.Context.{Known as WatchKnown}
-use Rattle.clk_demote.specs.Stamping.{epoch_at}
-use Rattle.clk_demote.proofs.Zipping.{zip_at}
 use Rattle.clk_lawful.specs.Checks.{listed, demotion_blocks}
 use Rattle.clk_lawful.specs.Filling.{FillsHistories}
 use Rattle.clk_lawful.specs.Standing.{is_stable}
@@ -43,7 +39,11 @@ use Rattle.clk_lawful.specs.declared.event.Event.{Event}
 use Rattle.clk_lawful.specs.declared.trace.HistoryStep.{HistoryStep}
 use Rattle.clk_lawful.specs.declared.trace.Trace.{Trace}
 use Rattle.clk_lawful.specs.declared.trace.WatchTrace.{WatchTrace}
-use Rattle.clk_trace.proofs.Gaining.{each_from}
+use Rattle.clk_latch.specs.Epoch.{Epoch}
+use Rattle.clk_latch.specs.Epoch.{Place as LatchPlace}
+use Rattle.clk_demote.specs.Context.{Known as WatchKnown}
+use Rattle.clk_demote.specs.Stamping.{epoch_at}
+use Rattle.clk_demote.proofs.Zipping.{zip_at}
 use Rattle.clk_worker.specs.declared.own.Own.{Own}
 use Rattle.clk_worker.specs.declared.shared.Shared.{Shared}
 use Rattle.clk_worker.specs.Making.{Hand, BelongsTo}

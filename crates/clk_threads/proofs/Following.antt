@@ -7,17 +7,17 @@ use Rattle.std.proofs.lemmas.List.{length-map, get_or-map}
 use Rattle.std.proofs.lemmas.List.Elements.{All-get_or}
 use mathlib.Core.List.{IsPrefix}
 use Rattle.clk_base.specs.Walk.{EachFrom}
+use Rattle.clk_base.proofs.Walks.{each_from}
+use Rattle.clk_machine.specs.Plan.{Plan, cpu_count, thread_at, threads_of}
+use Rattle.clk_machine.specs.Limits.{IsWithinLimits}
 use Rattle.clk_words.specs.declared.kind.SeatKind.{SeatKind}
 use Rattle.clk_words.specs.declared.view.View.{View}
 use Rattle.clk_words.specs.Fronts.{Begins}
 use Rattle.clk_words.specs.Parts.{gtod_of, raw_of, part_of}
 use Rattle.clk_words.specs.Rights.{has_number, owned_by}
 use Rattle.clk_words.proofs.Registers.{cpu_of_gtod, cpu_of_raw}
-use Rattle.clk_machine.specs.Plan.{Plan, cpu_count, thread_at, threads_of}
-use Rattle.clk_machine.specs.Limits.{IsWithinLimits}
 use Rattle.clk_latch.specs.Epoch.{Epoch}
 use Rattle.clk_latch.specs.Epoch.{Place as LatchPlace}
-use Rattle.clk_trace.proofs.Gaining.{each_from}
 use Rattle.clk_threads.specs.Preparing.{kind_on}
 use Rattle.clk_threads.specs.Finishing.{Ran, KnowsNoMore, FollowsOwner}
 use Rattle.clk_threads.specs.Ending.{all_together, RecordsBegin}

@@ -21,13 +21,13 @@ use Rattle.clk_words.specs.Rights.{has_number}
 use Rattle.clk_words.specs.Views.{own_lists, joint_made, together}
 use Rattle.clk_words.proofs.Fronts.{begins_self, begins_through}
 use Rattle.clk_words.proofs.Registers.{joint_at, part_through}
-use Rattle.clk_latch.specs.Epoch.{Place as LatchPlace}
 use Rattle.clk_lawful.specs.Checks.{listed}
 use Rattle.clk_lawful.specs.declared.event.Event.{Event}
+use Rattle.clk_lawful.specs.declared.trace.WatchTrace.{WatchTrace}
+use Rattle.clk_latch.specs.Epoch.{Place as LatchPlace}
 use Rattle.clk_worker.specs.declared.own.Own.{Own}
 use Rattle.clk_worker.specs.declared.shared.Shared.{Shared}
 use Rattle.clk_worker.specs.Making.{Hand}
-use Rattle.clk_lawful.specs.declared.trace.WatchTrace.{WatchTrace}
 use Rattle.clk_watcher.specs.Making.{Hand as WatchHand}
 use Rattle.clk_watcher.specs.declared.parts.WatchParts.{WatchParts}
 use Rattle.clk_threads.specs.Finishing.{KnowsNoMore}

@@ -6,8 +6,9 @@ use Rattle.std.proofs.Math.Seq.{get_or-append_seam, set-append_seam}
 use Rattle.std.proofs.lemmas.List.{length-map}
 use Rattle.std.proofs.lemmas.List.Elements.{All-nil, All-cons, All-head, All-tail, All-weaker, All-get_or}
 use Rattle.clk_base.specs.Walk.{EachFrom}
+use Rattle.clk_base.proofs.Walks.{each_from, each_at}
 use Rattle.clk_machine.specs.Plan.{threads_of}
-use Rattle.clk_record.specs.ChecksAsked.{checks_asked}
+use Rattle.clk_record.specs.Watching.{checks_asked}
 use Rattle.clk_lawful.specs.Checks.{listed}
 use Rattle.clk_worker.specs.declared.shared.Shared.{Shared}
 use Rattle.clk_worker.specs.Making.{Hand, script_of}
@@ -16,8 +17,6 @@ use Rattle.clk_threads.specs.Preparing.{IsPrepared}
 use Rattle.clk_threads.specs.Workers.{AreOfSeats, all_there, all_taken, IsWatcherOf, HasRun, HaveRun, WatcherRan}
 use Rattle.clk_threads.specs.Parts.{shared_of, seats_of, watch_seats_of, runs_stable, Parts, slot_at, with_slot, with_watcher, IsOpenedFrom, CameAt, CameFrom, WatchCame, HasMadeAll, AreBack}
 use Rattle.clk_threads.specs.declared.prepared.Prepared.{Prepared}
-use Rattle.clk_trace.proofs.Gaining.{each_from}
-use Rattle.clk_threads.proofs.LawfulLists.{each_at}
 use Rattle.clk_threads.proofs.Numbering.{each_of}
 use Rattle.clk_threads.proofs.Opening.{seats_count}
 use Rattle.clk_threads.proofs.Taking.{watch_stands, came_on, watch_came_on, thread_is, first_came, watch_first_came}

@@ -1,7 +1,7 @@
 -- The last stamp of a boot.
 use Rattle.std.proofs.Common.{◌≡◌, ℕ, suc, ◌-◌, ◌<◌, Bool, true, false, cond, List, [], ◌∷◌, length, get_or, refl, ap, ◌∙◌, arith}
-use Rattle.clk_lawful.specs.Stamps.{Pair, boot_pair, last_pair}
 use Rattle.clk_record.specs.declared.stable.StableStamp.{StableStamp}
+use Rattle.clk_lawful.specs.Stamps.{Pair, boot_pair, last_pair}
 
 pub last_is : (p : Pair) (d : StableStamp) (stamps : List StableStamp) → 0 < length stamps → boot_pair (get_or stamps (length stamps - 1) d) ≡ last_pair p stamps
 last_is p d [] some = absurd (omega (arith, some))

@@ -9,6 +9,7 @@ use Rattle.std.proofs.lemmas.List.{length-map, length-set, get_or-map, get_or_de
 use Rattle.std.proofs.lemmas.List.Elements.{All-get_or}
 use mathlib.Core.List.{IsPrefix}
 use Rattle.clk_base.specs.Walk.{EachFrom}
+use Rattle.clk_base.proofs.Walks.{each_from}
 use Rattle.clk_machine.specs.declared.reading.Published.{Published}
 use Rattle.clk_machine.specs.Plan.{Plan, cpu_count, thread_at, threads_of}
 use Rattle.clk_machine.specs.Limits.{IsWithinLimits}
@@ -17,7 +18,6 @@ use Rattle.clk_latch.specs.Calls.{Joins}
 use Rattle.clk_latch.specs.Epoch.{Epoch, owner_of, reader_of}
 use Rattle.clk_latch.specs.Epoch.{Place as LatchPlace}
 use Rattle.clk_latch.proofs.Prefixes.{prefix_self}
-use Rattle.clk_trace.proofs.Gaining.{each_from}
 use Rattle.clk_worker.specs.declared.shared.Shared.{Shared}
 use Rattle.clk_threads.specs.Preparing.{epoch_on, IsOfLatch, IsLatchSeat, HaveLatches}
 use Rattle.clk_threads.specs.declared.latches.Latches.{Latches}

@@ -1,14 +1,14 @@
 -- The trace of a run of several threads is lawful, and shows the history of the clock words: in either start, with or
 -- without a watchdog, and with the demotions that there are.
 use Rattle.std.proofs.Common.{◌≡◌, ℕ, ◌+◌, ◌<◌, ℤ, Bool, true, false, not, ◌||◌, is_some, inl, inr, List, length, get_or, Option, Some, None, ap, ◌∙◌, sym, subst, refl, arith}
-use Rattle.clk_record.specs.declared.step.Step.{Step}
+use Rattle.clk_base.proofs.Walks.{each_from}
 use Rattle.clk_machine.specs.Plan.{Plan, cpu_count}
+use Rattle.clk_record.specs.declared.step.Step.{Step}
 use Rattle.clk_record.specs.declared.stable.Demotion.{Demotion}
 use Rattle.clk_lawful.specs.LawfulTrace.{IsLawful}
 use Rattle.clk_lawful.specs.Stamps.{Pair}
 use Rattle.clk_lawful.specs.Standing.{begins_stable, demotion_by}
 use Rattle.clk_lawful.specs.declared.trace.Trace.{Trace}
-use Rattle.clk_trace.proofs.Gaining.{each_from}
 use Rattle.clk_threads.specs.Finishing.{Ran, RanWhole, IsRunOf, ShowsHistory}
 use Rattle.clk_threads.proofs.LawfulFields.{lawful_by, shows_by}
 use Rattle.clk_threads.proofs.LawfulLists.{cpu_of_thread, thread_cpu}

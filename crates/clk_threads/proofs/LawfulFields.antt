@@ -11,15 +11,15 @@ use Rattle.clk_base.specs.Walk.{Along, EachFrom}
 use Rattle.clk_base.proofs.Rising.{rises_from}
 use Rattle.clk_num.specs.Listed.{Listed}
 use Rattle.clk_num.specs.Wrapping.{wrap}
-use Rattle.clk_record.specs.declared.step.Step.{Step}
-use Rattle.clk_words.specs.Calls.{own_steps}
-use Rattle.clk_words.specs.Histories.{opens_at, steps_on}
 use Rattle.clk_machine.specs.Plan.{Plan, cpu_count, thread_at, threads_of}
 use Rattle.clk_machine.specs.Records.{record_zero}
 use Rattle.clk_machine.specs.declared.script.Word.{Word}
+use Rattle.clk_record.specs.declared.step.Step.{Step}
 use Rattle.clk_record.specs.Demotions.{IsDemotion}
 use Rattle.clk_record.specs.declared.stable.Demotion.{Demotion}
 use Rattle.clk_record.specs.declared.stable.StableStamp.{StableStamp}
+use Rattle.clk_words.specs.Calls.{own_steps}
+use Rattle.clk_words.specs.Histories.{opens_at, steps_on}
 use Rattle.clk_lawful.specs.Checks.{listed, pause_of, watch_blocks, checks_in}
 use Rattle.clk_lawful.specs.Couples.{CouplesLower}
 use Rattle.clk_lawful.specs.Demoted.{boot_stamp, IsDemotedRight, HasDemotions}

@@ -6,27 +6,20 @@ use Rattle.std.proofs.lemmas.List.Elements.{All-nil, All-cons, All-append, All-m
 use Rattle.std.proofs.lemmas.List.FromFn.{length-enumerate_from}
 use Rattle.std.specs.List.{All, AllZip, flat_map, enumerate_from}
 use Rattle.clk_base.specs.Walk.{EachFrom}
+use Rattle.clk_base.proofs.Walks.{each_from, each_at}
 use Rattle.clk_num.specs.Listed.{Listed}
-use Rattle.clk_record.specs.declared.step.Step.{Step}
 use Rattle.clk_machine.specs.Plan.{Plan, CpuPlan, ReaderPlan, count_of, cpu_count, all_words, thread_at, threads_of}
 use Rattle.clk_machine.specs.Limits.{IsReader, IsWithinLimits}
 use Rattle.clk_machine.specs.declared.script.Word.{Word}
+use Rattle.clk_record.specs.declared.step.Step.{Step}
 use Rattle.clk_lawful.specs.Threads.{own_events}
 use Rattle.clk_lawful.specs.WordHistory.{Placed, steps_from, all_steps}
 use Rattle.clk_lawful.specs.declared.event.Event.{Event}
 use Rattle.clk_lawful.specs.declared.trace.Trace.{Trace}
-use Rattle.clk_trace.proofs.Gaining.{each_from}
 use Rattle.clk_worker.proofs.RunSteps.{numbered}
 use Rattle.clk_threads.specs.Finishing.{Ran, events_of}
 
 -- ---- what holds of each item and its number
-
--- holds of the item at each place
-pub each_at : {A : Type 0} (P : ℕ → A → Type 0) (n : ℕ) (xs : List A) (k : ℕ) (d : A) → k < length xs → EachFrom P n xs → P (n + k) (get_or xs k d)
-each_at P n [] k d low each = absurd (omega (arith, low))
-each_at P n (x ∷ xs) zero d low each = let e : n ≡ n + 0 = omega arith in subst (λ (i : ℕ). P i x) e each.0
-each_at P n (x ∷ xs) (suc k) d low each =
-    let e : n + 1 + k ≡ n + suc k = omega arith in subst (λ (i : ℕ). P i (get_or xs k d)) e (each_at P (n + 1) xs k d (omega (arith, low)) each.1)
 
 -- what holds of the items numbered below `top` holds of so many of the first
 pub each_first : {A : Type 0} (P : ℕ → A → Type 0) (top n count : ℕ) (xs : List A) → n + count ≤ top → EachFrom (λ k x. k < top → P k x) n xs

@@ -1,16 +1,16 @@
 -- How the clock of a run stands as its scripts begin, in the terms of the trace and of the words' opening.
 use Rattle.std.proofs.Common.{◌≡◌, ℤ, ◌+ℤ◌, Bool, true, false, ◌&&◌, not, is_some, if◌then◌else◌, List, Option, Some, None, refl, ap, ◌∙◌, sym}
+use Rattle.clk_num.specs.Wrapping.{wrap}
+use Rattle.clk_machine.specs.Plan.{Plan}
 use Rattle.clk_record.specs.declared.mode.Mode.TheVariants.{Stable, PerCpu}
 use Rattle.clk_record.specs.declared.step.Step.{Step}
-use Rattle.clk_machine.specs.Plan.{Plan}
 use Rattle.clk_record.specs.declared.stable.StableStamp.{StableStamp}
 use Rattle.clk_record.specs.declared.stable.Demotion.{Demotion}
+use Rattle.clk_words.specs.Bounds.{opens_of}
 use Rattle.clk_lawful.specs.LawfulTrace.{opening_at}
 use Rattle.clk_lawful.specs.Standing.{is_stable, begins_stable, demotion_by, either_demotion, offset_at, standing_offset}
 use Rattle.clk_lawful.specs.Stamps.{no_pair, last_pair, pair_at, stamp_zero}
 use Rattle.clk_lawful.specs.declared.trace.Trace.{Trace}
-use Rattle.clk_num.specs.Wrapping.{wrap}
-use Rattle.clk_words.specs.Bounds.{opens_of}
 use Rattle.clk_threads.specs.Booting.{gtod_offset_of, opening_of, IsBootDemotion}
 use Rattle.clk_threads.specs.Preparing.{start_of}
 use Rattle.clk_threads.specs.Finishing.{IsRunOf}

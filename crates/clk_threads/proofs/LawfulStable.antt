@@ -4,17 +4,17 @@ use Rattle.std.proofs.Common.{◌≡◌, ℕ, ◌+◌, ◌<◌, ℤ, Bool, true,
 use Rattle.std.specs.List.{All, flat_map, sum_by}
 use Rattle.std.proofs.lemmas.List.Elements.{All-nil, All-cons, All-head, All-tail, All-append, All-map}
 use Rattle.std.proofs.lemmas.List.Sums.{sum_by-cons}
+use Rattle.clk_machine.specs.Plan.{Plan, cpu_count, thread_at}
 use Rattle.clk_record.specs.declared.mode.Mode.TheVariants.{Stable, PerCpu}
-use Rattle.clk_words.specs.declared.opening.Start.{Start}
 use Rattle.clk_record.specs.declared.step.Step.{Step}
 use Rattle.clk_record.specs.declared.step.Why.{Why}
 use Rattle.clk_record.specs.declared.step.Why.TheVariants.{Raise, Couple, Lift}
+use Rattle.clk_record.specs.declared.stable.Demotion.{Demotion}
+use Rattle.clk_words.specs.declared.opening.Start.{Start}
 use Rattle.clk_words.specs.declared.view.Part.{Part}
 use Rattle.clk_words.specs.Calls.{own_steps}
 use Rattle.clk_words.specs.Histories.{is_lift, IsInOrder, IsGlobalHistory}
 use Rattle.clk_words.specs.Parts.{gtod_of, raw_of, part_of}
-use Rattle.clk_machine.specs.Plan.{Plan, cpu_count, thread_at}
-use Rattle.clk_record.specs.declared.stable.Demotion.{Demotion}
 use Rattle.clk_lawful.specs.Stamps.{Pair, no_pair, last_pair, pair_at, stamp_zero}
 use Rattle.clk_lawful.specs.Standing.{begins_stable, demotion_by, either_demotion, offset_at, standing_offset}
 use Rattle.clk_lawful.specs.WordHistory.{Placed, steps_of_kind, steps_from}

@@ -7,19 +7,19 @@ use mathlib.Core.List.{IsPrefix}
 use Rattle.clk_base.specs.declared.block.Block.{Block}
 use Rattle.clk_base.specs.Blocks.{RisesFrom, top_of}
 use Rattle.clk_base.specs.Walk.{Along, EachFrom}
-use Rattle.clk_words.specs.declared.kind.SeatKind.TheVariants.{Owner}
+use Rattle.clk_base.proofs.Walks.{each_from}
+use Rattle.clk_machine.specs.Plan.{Plan, cpu_count, thread_at}
+use Rattle.clk_machine.specs.Records.{record_zero}
 use Rattle.clk_record.specs.declared.mode.Mode.TheVariants.{Stable}
-use Rattle.clk_words.specs.declared.opening.Start.{Start}
 use Rattle.clk_record.specs.declared.step.Step.{Step}
+use Rattle.clk_words.specs.declared.kind.SeatKind.TheVariants.{Owner}
+use Rattle.clk_words.specs.declared.opening.Start.{Start}
 use Rattle.clk_words.specs.declared.view.Part.{Part}
 use Rattle.clk_words.specs.Fronts.{Begins}
 use Rattle.clk_words.specs.Histories.{opens_at, IsGlobalHistory}
 use Rattle.clk_words.specs.Kinds.{cpu_of}
 use Rattle.clk_words.specs.Parts.{gtod_of, raw_of, part_of}
 use Rattle.clk_words.specs.Rights.{owned_by}
-use Rattle.clk_machine.specs.Plan.{Plan, cpu_count, thread_at}
-use Rattle.clk_machine.specs.Records.{record_zero}
-use Rattle.clk_local.specs.Context.{Site}
 use Rattle.clk_lawful.specs.Modes.{modes_of}
 use Rattle.clk_lawful.specs.RightReadings.{IsRightKind, adjust_of}
 use Rattle.clk_lawful.specs.ScriptEvents.{AreEventsOf}
@@ -32,7 +32,7 @@ use Rattle.clk_lawful.specs.Updates.{records_of, OwnsRecords, record_after}
 use Rattle.clk_lawful.specs.WordHistory.{steps_from}
 use Rattle.clk_lawful.specs.declared.event.Event.{Event}
 use Rattle.clk_lawful.specs.declared.trace.Trace.{Trace}
-use Rattle.clk_trace.proofs.Gaining.{each_from}
+use Rattle.clk_local.specs.Context.{Site}
 use Rattle.clk_worker.proofs.RunLifted.{StoodAt}
 use Rattle.clk_worker.proofs.RunModes.{AreOfMode}
 use Rattle.clk_worker.proofs.RunNamed.{steps_below}

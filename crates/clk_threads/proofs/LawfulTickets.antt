@@ -7,15 +7,15 @@ use Rattle.clk_base.specs.declared.block.Block.{Block}
 use Rattle.clk_base.specs.Blocks.{end_of, AllEndBy, RisesFrom, top_of}
 use Rattle.clk_base.specs.Walk.{EachFrom}
 use Rattle.clk_ticket.specs.Time.{Time, Draws}
-use Rattle.clk_local.specs.Context.{Site, Known}
-use Rattle.clk_record.specs.declared.step.Step.{Step}
 use Rattle.clk_machine.specs.Plan.{Plan}
+use Rattle.clk_record.specs.declared.step.Step.{Step}
 use Rattle.clk_lawful.specs.Checks.{listed, demotion_blocks}
 use Rattle.clk_lawful.specs.TicketOrder.{blocks_of, blocks_of_kind, boot_blocks, up_blocks, first_blocks, thread_blocks}
 use Rattle.clk_lawful.specs.declared.trace.Trace.{Trace}
 use Rattle.clk_lawful.specs.declared.event.Event.{Event}
 use Rattle.clk_lawful.specs.declared.event.EventKind.{EventKind}
 use Rattle.clk_lawful.specs.declared.event.EventKind.TheVariants.{Stable, Local, Couple, Stamp, Nothing, Update, Pause}
+use Rattle.clk_local.specs.Context.{Site, Known}
 use Rattle.clk_worker.specs.Running.{Shows, Runs, at_call}
 use Rattle.clk_threads.specs.Finishing.{Ran, events_of, IsRunOf}
 

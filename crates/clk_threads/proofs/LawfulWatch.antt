@@ -9,16 +9,15 @@ use mathlib.Core.List.{IsPrefix}
 use Rattle.clk_base.specs.declared.block.Block.{Block}
 use Rattle.clk_base.specs.Blocks.{Rises, RisesFrom, top_of}
 use Rattle.clk_base.specs.Walk.{EachFrom, flat_from}
+use Rattle.clk_base.proofs.Walks.{each_at}
 use Rattle.clk_num.specs.Wrapping.{raise}
-use Rattle.clk_record.specs.declared.step.Step.{Step}
-use Rattle.clk_words.specs.Fronts.{Begins}
-use Rattle.clk_words.specs.Histories.{opens_at, is_lift}
 use Rattle.clk_machine.specs.Plan.{Plan, cpu_count}
+use Rattle.clk_record.specs.declared.step.Step.{Step}
 use Rattle.clk_record.specs.declared.stable.StableStamp.{StableStamp}
 use Rattle.clk_record.specs.declared.stable.Demotion.{Demotion}
 use Rattle.clk_record.specs.Demotions.{IsDemotion}
-use Rattle.clk_demote.specs.Shows.{adjust_at}
-use Rattle.clk_demote.specs.Stamping.{epoch_at}
+use Rattle.clk_words.specs.Fronts.{Begins}
+use Rattle.clk_words.specs.Histories.{opens_at, is_lift}
 use Rattle.clk_lawful.specs.Checks.{Visit, Check, listed, pause_of, visits_of, watch_blocks, checks_of, checks_in}
 use Rattle.clk_lawful.specs.Demoted.{HasOffset, last_stamp, boot_stamp, IsLiftOf, IsDemotedBy, IsDemotedRight}
 use Rattle.clk_lawful.specs.RightReadings.{adjust_of, check_cpu, named_in, NeverFall, IsRightVisit}
@@ -31,17 +30,18 @@ use Rattle.clk_lawful.specs.Watchdog.{AreCalledFor}
 use Rattle.clk_lawful.specs.WordHistory.{Placed, placed_lift, lift_steps}
 use Rattle.clk_lawful.specs.declared.trace.WatchTrace.{WatchTrace}
 use Rattle.clk_lawful.specs.declared.trace.Trace.{Trace}
+use Rattle.clk_demote.specs.Shows.{adjust_at}
+use Rattle.clk_demote.specs.Stamping.{epoch_at}
 use Rattle.clk_worker.proofs.RunLifted.{IsLiftIn, StoodAt, lifted_stood}
 use Rattle.clk_worker.proofs.RunLifts.{numbered_lifts, lifts_reach, lifts_name}
 use Rattle.clk_worker.proofs.RunNamed.{NamesIn}
 use Rattle.clk_worker.proofs.RunSteps.{numbered}
 use Rattle.clk_watcher.specs.Shown.{IsLift, WatchShows}
 use Rattle.clk_watcher.proofs.LawShows.{watch_shows}
+use Rattle.clk_watcher.specs.Checking.{KeepsLifts}
 use Rattle.clk_threads.specs.Booting.{gtod_offset_of}
 use Rattle.clk_threads.specs.Finishing.{Ran, Watched, KnowsNoMore, watch_site, WatchedWhole, IsRunOf}
-use Rattle.clk_watcher.specs.Checking.{KeepsLifts}
-use Rattle.clk_threads.proofs.Bringing.{adjust_at as adjusts_at}
-use Rattle.clk_threads.proofs.LawfulLists.{each_at}
+use Rattle.clk_threads.proofs.Adjusting.{adjust_at as adjusts_at}
 use Rattle.clk_threads.proofs.LawfulThreads.{start_in, owner_at}
 use Rattle.clk_threads.proofs.LawfulTickets.{first_low, rises_lower}
 use Rattle.clk_threads.proofs.Numbering.{cpus_few, threads_cover}

@@ -10,20 +10,20 @@ use Rattle.clk_base.specs.declared.block.Block.{Block}
 use Rattle.clk_base.specs.Walk.{EachFrom}
 use Rattle.clk_num.specs.Listed.{Listed}
 use Rattle.clk_ticket.specs.Time.{Time, share_of}
-use Rattle.clk_words.specs.declared.opening.Start.{Start}
+use Rattle.clk_machine.specs.declared.script.Word.{Word}
+use Rattle.clk_machine.specs.Plan.{thread_at, threads_of}
 use Rattle.clk_record.specs.declared.step.Step.{Step}
+use Rattle.clk_words.specs.declared.opening.Start.{Start}
 use Rattle.clk_words.specs.declared.view.View.{View}
 use Rattle.clk_words.specs.Histories.{IsGlobalHistory}
 use Rattle.clk_words.specs.Held.{place_of}
 use Rattle.clk_words.specs.Rights.{has_number, owned_by}
 use Rattle.clk_words.specs.Views.{own_lists}
-use Rattle.clk_machine.specs.declared.script.Word.{Word}
-use Rattle.clk_machine.specs.Plan.{thread_at, threads_of}
+use Rattle.clk_lawful.specs.ScriptEvents.{AreEventsOf}
+use Rattle.clk_lawful.specs.declared.event.Event.{Event}
 use Rattle.clk_latch.specs.Epoch.{Epoch}
 use Rattle.clk_latch.specs.Epoch.{Place as LatchPlace}
 use Rattle.clk_local.specs.Context.{Known}
-use Rattle.clk_lawful.specs.ScriptEvents.{AreEventsOf}
-use Rattle.clk_lawful.specs.declared.event.Event.{Event}
 use Rattle.clk_worker.specs.declared.own.Own.{Own}
 use Rattle.clk_worker.specs.declared.own.Post.{Post}
 use Rattle.clk_worker.specs.Calling.{site_at, has}

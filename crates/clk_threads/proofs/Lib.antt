@@ -5,7 +5,7 @@ pub mod SplitLatches
 pub mod Following
 pub mod Giving
 pub mod Sharing
-pub mod Bringing
+pub mod Adjusting
 pub mod BootDemoting
 pub mod Stamping
 pub mod LawfulLists

@@ -4,17 +4,18 @@ use Rattle.std.specs.List.{All, enumerate_from, count_by}
 use Rattle.std.proofs.lemmas.Bool.{cases_lt, lt-ltb, le-ltb}
 use Rattle.std.proofs.lemmas.List.Elements.{All-nil, All-cons, All-head, All-tail, All-append, All-map, All-weaker, All-get_or}
 use Rattle.clk_base.specs.Walk.{EachFrom}
-use Rattle.clk_words.specs.declared.kind.SeatKind.TheVariants.{Owner, Reader}
-use Rattle.clk_words.specs.Kinds.{cpu_of}
-use Rattle.clk_words.specs.Knowing.{IsReadingKind}
+use Rattle.clk_base.proofs.Walks.{each_at}
 use Rattle.clk_machine.specs.declared.script.Word.{Word}
 use Rattle.clk_machine.specs.declared.script.Word.TheVariants as word
 use Rattle.clk_machine.specs.Plan.{Plan, CpuPlan, ReaderPlan, count_of, cpu_count, all_words, thread_at, threads_of}
 use Rattle.clk_machine.specs.Limits.{IsOfReader, is_second, is_update, IsCpu, IsReader, IsWithinLimits}
 use Rattle.clk_machine.proofs.Threading.{threads_length}
+use Rattle.clk_words.specs.declared.kind.SeatKind.TheVariants.{Owner, Reader}
+use Rattle.clk_words.specs.Kinds.{cpu_of}
+use Rattle.clk_words.specs.Knowing.{IsReadingKind}
 use Rattle.clk_worker.proofs.Scripts.{reader_words}
 use Rattle.clk_threads.specs.Preparing.{kind_on}
-use Rattle.clk_threads.proofs.LawfulLists.{each_at, owner_cpu}
+use Rattle.clk_threads.proofs.LawfulLists.{owner_cpu}
 
 -- what holds of each item and its number holds of item k
 pub each_of : {A : Type 0} (P : ℕ → A → Type 0) (xs : List A) (k : ℕ) (d : A) → k < length xs → EachFrom P 0 xs → P k (get_or xs k d)

@@ -7,12 +7,12 @@ use Rattle.std.proofs.lemmas.List.Elements.{All-nil, All-cons, All-head, All-tai
 use Rattle.std.proofs.lemmas.List.Sums.{sum_by-cons}
 use Rattle.clk_base.specs.Walk.{EachFrom}
 use Rattle.clk_num.specs.Listed.{Listed}
-use Rattle.clk_record.specs.LowerWord.{is_lower}
 use Rattle.clk_machine.specs.declared.script.Word.{Word}
 use Rattle.clk_machine.specs.declared.script.Word.TheVariants as word
 use Rattle.clk_machine.specs.Plan.{Plan, count_of, cpu_count, thread_at, threads_of}
 use Rattle.clk_machine.specs.Limits.{IsWithinLimits}
 use Rattle.clk_machine.specs.Steps.{on_word, steps_for}
+use Rattle.clk_record.specs.LowerWord.{is_lower}
 use Rattle.clk_record.specs.declared.step.Why.TheVariants as why
 use Rattle.clk_lawful.specs.Couples.{CouplesLower, named_word, named_value}
 use Rattle.clk_lawful.specs.Filling.{NamesWordsBelow, MayFill, lines_on}

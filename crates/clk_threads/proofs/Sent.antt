@@ -5,25 +5,22 @@ use Rattle.atomic_table.proofs.shared.Seat.TheSendSync.{the_send as table_seat_s
 use Rattle.atomic_table.proofs.shared.Shared.TheSendSync.{the_send as table_send, the_sync as table_sync}
 use Rattle.atomic_table.proofs.send_lease.SendLease.TheSendSync.{the_send as lease_send, the_sync as lease_sync}
 use Rattle.clk_num.specs.contracts.list.List
+use Rattle.clk_ticket.proofs.Sent.{time_sent, tickets_shared}
+use Rattle.clk_machine.proofs.Sent.{machine_shared}
 use Rattle.clk_words.specs.contracts.seat.Seat
 use Rattle.clk_words.specs.contracts.words.Words
+use Rattle.clk_lawful.specs.contracts.event.Event
 use Rattle.clk_latch.specs.contracts.seat.LatchSeat
 use Rattle.clk_latch.specs.contracts.latch.Latch
-use Rattle.clk_ticket.specs.contracts.seat.TimeSeat
-use Rattle.clk_lawful.specs.contracts.event.Event
 use Rattle.clk_worker.specs.contracts.own.Own
 use Rattle.clk_worker.specs.contracts.shared.Shared
 use Rattle.clk_worker.specs.contracts.worker.Worker
-use Rattle.clk_warp.proofs.Sent.{tickets_shared, machine_shared}
 
 seat_sent : IsSend Seat.the_row
 seat_sent = search (sendable, crosses, table_seat_send) depth 60
 
 latch_seat_sent : IsSend LatchSeat.the_row
 latch_seat_sent = search (sendable, crosses, table_seat_send) depth 60
-
-time_sent : IsSend TimeSeat.the_row
-time_sent = search (sendable, crosses, table_seat_send) depth 60
 
 own_sent : IsSend Own.the_row
 own_sent = search (seat_sent, latch_seat_sent, time_sent, sendable, crosses) depth 60

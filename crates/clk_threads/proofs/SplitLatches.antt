@@ -1,11 +1,11 @@
 -- The watchdog's seats at the latches: each is split off the owner's of a CPU.
 use Rattle.std.proofs.Common.{◌≡◌, ℕ, ◌+◌, ◌<◌, ◌≤◌, Bool, true, false, cond, List, [], ◌∷◌, ◌++◌, length, get_or, sym, ap, ◌∙◌, subst, arith}
 use Rattle.clk_base.specs.Walk.{EachFrom}
+use Rattle.clk_base.proofs.Walks.{each_from}
 use Rattle.clk_machine.specs.declared.reading.Published.{Published}
 use Rattle.clk_machine.specs.Plan.{Plan, cpu_count, thread_at}
 use Rattle.clk_latch.specs.Epoch.{reader_of}
 use Rattle.clk_latch.specs.Epoch.{Place as LatchPlace}
-use Rattle.clk_trace.proofs.Gaining.{each_from}
 use Rattle.clk_threads.specs.Preparing.{epoch_on, IsLatchSeat, HaveLatches, IsWatchLatch, AreOwners, IsSplitOff, AreSplitOff}
 use Rattle.clk_threads.specs.declared.latches.Latches.{Latches}
 use Rattle.clk_threads.proofs.Filling.{each_push}

@@ -11,18 +11,18 @@ use Rattle.clk_num.proofs.Wraps.{wrapped}
 use Rattle.clk_num.proofs.Heights.{above_is, signed_is}
 use Rattle.clk_num.proofs.Converting.{convert_rises}
 use Rattle.clk_ticket.specs.Time.{Tickets, Time, Draws, fresh, share_of}
-use Rattle.clk_words.specs.Bounds.{IsGtod}
 use Rattle.clk_machine.specs.Plan.{Plan, count_of}
 use Rattle.clk_machine.specs.Limits.{most_tickets}
 use Rattle.clk_machine.specs.Tickets.{boot_tickets}
 use Rattle.clk_machine.specs.Time.{reference_at, reference_rate, gtod_at}
 use Rattle.clk_machine.specs.Records.{record_zero, base_of}
 use Rattle.clk_machine.proofs.Travel.{time_rises}
-use Rattle.clk_latch.specs.Epoch.{Epoch, owner_of}
+use Rattle.clk_record.specs.declared.stable.StableStamp.{StableStamp}
+use Rattle.clk_words.specs.Bounds.{IsGtod}
 use Rattle.clk_lawful.specs.Checks.{one}
 use Rattle.clk_lawful.specs.TicketOrder.{boot_blocks, up_blocks}
 use Rattle.clk_lawful.specs.RightReadings.{IsRightStamp}
-use Rattle.clk_record.specs.declared.stable.StableStamp.{StableStamp}
+use Rattle.clk_latch.specs.Epoch.{Epoch, owner_of}
 use Rattle.clk_threads.specs.Booting.{HasEpoch, MayStampAtBoot, HasStamped, gtod_offset_of, AreStamps, HasDrawnFirst}
 
 -- monotonic time does not fall

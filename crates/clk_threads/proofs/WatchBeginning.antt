@@ -11,27 +11,27 @@ use Rattle.clk_num.specs.Range.{IsNear, IsFrom0To}
 use Rattle.clk_num.specs.Wrapping.{wrap}
 use Rattle.clk_num.proofs.Wraps.{wrapped}
 use Rattle.clk_ticket.specs.Time.{Time}
-use Rattle.clk_words.specs.declared.kind.SeatKind.TheVariants.{Watch}
+use Rattle.clk_machine.specs.Plan.{Plan, cpu_count, threads_of}
+use Rattle.clk_machine.specs.Records.{record_zero, above_base}
 use Rattle.clk_record.specs.declared.mode.Mode.TheVariants.{Stable, PerCpu}
-use Rattle.clk_words.specs.declared.opening.Start.{Start}
 use Rattle.clk_record.specs.declared.step.Step.{Step}
+use Rattle.clk_record.specs.declared.up.CpuUp.{CpuUp}
+use Rattle.clk_record.specs.declared.stable.StableStamp.{StableStamp}
+use Rattle.clk_record.specs.declared.stable.Demotion.{Demotion}
+use Rattle.clk_record.specs.Demotions.{offset_by}
+use Rattle.clk_words.specs.declared.kind.SeatKind.TheVariants.{Watch}
+use Rattle.clk_words.specs.declared.opening.Start.{Start}
 use Rattle.clk_words.specs.declared.view.View.{View}
 use Rattle.clk_words.specs.Held.{Held}
 use Rattle.clk_words.specs.Histories.{opens_at, has_lift}
 use Rattle.clk_words.specs.Views.{is_percpu, first_view, given_view}
-use Rattle.clk_machine.specs.Plan.{Plan, cpu_count, threads_of}
-use Rattle.clk_machine.specs.Records.{record_zero, above_base}
-use Rattle.clk_latch.specs.Epoch.{Place as LatchPlace}
-use Rattle.clk_local.specs.Context.{BeginsAtBase}
-use Rattle.clk_record.specs.declared.up.CpuUp.{CpuUp}
 use Rattle.clk_lawful.specs.Checks.{listed}
 use Rattle.clk_lawful.specs.Demoted.{last_stamp, boot_stamp}
 use Rattle.clk_lawful.specs.RightReadings.{adjust_in}
 use Rattle.clk_lawful.specs.Stamps.{Pair, no_pair, boot_pair, last_pair}
 use Rattle.clk_lawful.specs.declared.trace.WatchTrace.{WatchTrace}
-use Rattle.clk_record.specs.declared.stable.StableStamp.{StableStamp}
-use Rattle.clk_record.specs.declared.stable.Demotion.{Demotion}
-use Rattle.clk_record.specs.Demotions.{offset_by}
+use Rattle.clk_latch.specs.Epoch.{Place as LatchPlace}
+use Rattle.clk_local.specs.Context.{BeginsAtBase}
 use Rattle.clk_watcher.specs.Making.{IsStable}
 use Rattle.clk_watcher.specs.Making.{Hand as WatchHand, Begins as WatchBegins, MayBegin as MayWatch, BelongsTo as WatchBelongsTo, IsGoing as IsWatchGoing}
 use Rattle.clk_watcher.specs.declared.parts.WatchParts.{WatchParts}
@@ -41,7 +41,7 @@ use Rattle.clk_threads.specs.Workers.{IsOfWatch, IsWatcherOf}
 use Rattle.clk_threads.specs.Parts.{shared_of, watch_seats_of, runs_stable}
 use Rattle.clk_threads.specs.declared.prepared.Prepared.{Prepared}
 use Rattle.clk_threads.proofs.Beginning.{opens_near, fit, given_all}
-use Rattle.clk_threads.proofs.Bringing.{adjust_after, adjust_at}
+use Rattle.clk_threads.proofs.Adjusting.{adjust_after, adjust_at}
 use Rattle.clk_threads.proofs.Giving.{gave_start, not_watch}
 use Rattle.clk_threads.proofs.Lasts.{some_stamps}
 use Rattle.clk_threads.proofs.Numbering.{each_of}

@@ -7,20 +7,20 @@ use Rattle.std.proofs.lemmas.List.Elements.{All-nil, All-cons, All-head}
 use Rattle.clk_base.specs.Walk.{EachFrom}
 use Rattle.clk_num.specs.Listed.{Listed}
 use Rattle.clk_ticket.specs.Time.{Time, share_of}
-use Rattle.clk_words.specs.declared.opening.Start.{Start}
+use Rattle.clk_machine.specs.Plan.{Plan, cpu_count, threads_of}
+use Rattle.clk_machine.specs.Records.{record_zero}
 use Rattle.clk_record.specs.declared.step.Step.{Step}
+use Rattle.clk_record.specs.declared.stable.StableStamp.{StableStamp}
+use Rattle.clk_record.specs.declared.stable.Demotion.{Demotion}
+use Rattle.clk_record.specs.Watching.{checks_asked}
+use Rattle.clk_words.specs.declared.opening.Start.{Start}
 use Rattle.clk_words.specs.declared.view.View.{View}
 use Rattle.clk_words.specs.Held.{Held}
 use Rattle.clk_words.specs.Views.{own_lists}
-use Rattle.clk_machine.specs.Plan.{Plan, cpu_count, threads_of}
-use Rattle.clk_machine.specs.Records.{record_zero}
+use Rattle.clk_lawful.specs.Checks.{Visit, Check, listed}
 use Rattle.clk_latch.specs.Epoch.{Epoch}
 use Rattle.clk_latch.specs.Epoch.{Place as LatchPlace}
-use Rattle.clk_record.specs.declared.stable.StableStamp.{StableStamp}
-use Rattle.clk_record.specs.declared.stable.Demotion.{Demotion}
 use Rattle.clk_demote.specs.Context.{Site, Known}
-use Rattle.clk_record.specs.ChecksAsked.{checks_asked}
-use Rattle.clk_lawful.specs.Checks.{Visit, Check, listed}
 use Rattle.clk_worker.specs.declared.shared.Shared.{Shared}
 use Rattle.clk_watcher.specs.Checking.{StampsAt, DemotesAt, WatchesVisits, Watches, HasWatched}
 use Rattle.clk_watcher.specs.Making.{site_at, has}

@@ -6,15 +6,15 @@ use Rattle.std.proofs.lemmas.Bool.Decides.{nat_tests}
 use Rattle.std.proofs.lemmas.List.{map-append}
 use Rattle.std.proofs.lemmas.List.Elements.{All-nil, All-cons, All-append, filter-append}
 use Rattle.std.proofs.lemmas.Map.Keys.{IsDistinct-from_apart}
-use Rattle.clk_words.specs.declared.opening.Start.{Start}
-use Rattle.clk_record.specs.declared.step.Step.{Step}
-use Rattle.clk_machine.specs.Plan.{cpu_count, threads_of}
 use Rattle.clk_ticket.specs.Time.{Time}
+use Rattle.clk_machine.specs.Plan.{cpu_count, threads_of}
+use Rattle.clk_record.specs.declared.step.Step.{Step}
 use Rattle.clk_record.specs.declared.stable.Demotion.{Demotion}
-use Rattle.clk_demote.specs.Lifts.{lift_of, lifts_of}
+use Rattle.clk_words.specs.declared.opening.Start.{Start}
 use Rattle.clk_lawful.specs.Standing.{lifts_by}
 use Rattle.clk_lawful.specs.WordHistory.{Placed, placed_lift, lift_steps, placed_on}
 use Rattle.clk_lawful.specs.declared.trace.WatchTrace.{WatchTrace}
+use Rattle.clk_demote.specs.Lifts.{lift_of, lifts_of}
 use Rattle.clk_watcher.specs.Checking.{KeepsLifts}
 use Rattle.clk_watcher.specs.Making.{has}
 use Rattle.clk_watcher.specs.Making.{Hand as WatchHand}

@@ -5,24 +5,24 @@ use Rattle.clk_base.specs.Blocks.{AllEndBy, Rises}
 use Rattle.clk_num.specs.Range.{IsNear, IsFrom0To}
 use Rattle.clk_num.specs.Wrapping.{wrap}
 use Rattle.clk_ticket.specs.Time.{Tickets, Time, Draws, fresh, share_of}
-use Rattle.clk_record.specs.declared.mode.Mode.TheVariants.{Stable, PerCpu}
-use Rattle.clk_words.specs.declared.opening.Opening.{Opening}
-use Rattle.clk_words.specs.Bounds.{IsGtod, opens_of, IsOpening}
 use Rattle.clk_machine.specs.Plan.{Plan}
 use Rattle.clk_machine.specs.Limits.{most_tickets, IsWithinLimits}
 use Rattle.clk_machine.specs.Tickets.{boot_tickets, word_tickets, watch_tickets}
 use Rattle.clk_machine.specs.Records.{record_zero, above_base}
-use Rattle.clk_latch.specs.Epoch.{Epoch}
+use Rattle.clk_record.specs.declared.mode.Mode.TheVariants.{Stable, PerCpu}
 use Rattle.clk_record.specs.declared.up.CpuUp.{CpuUp}
 use Rattle.clk_record.specs.declared.up.BroughtUp.{BroughtUp}
+use Rattle.clk_record.specs.Demotions.{IsDemotion}
+use Rattle.clk_record.specs.declared.stable.StableStamp.{StableStamp}
+use Rattle.clk_record.specs.declared.stable.Demotion.{Demotion}
+use Rattle.clk_words.specs.declared.opening.Opening.{Opening}
+use Rattle.clk_words.specs.Bounds.{IsGtod, opens_of, IsOpening}
 use Rattle.clk_lawful.specs.TicketOrder.{boot_blocks, up_blocks}
 use Rattle.clk_lawful.specs.Checks.{listed, demotion_blocks}
 use Rattle.clk_lawful.specs.Demoted.{boot_stamp}
 use Rattle.clk_lawful.specs.RightReadings.{IsRightStamp, taken_stamp}
 use Rattle.clk_lawful.specs.Stamps.{no_pair, first_pair, last_pair}
-use Rattle.clk_record.specs.Demotions.{IsDemotion}
-use Rattle.clk_record.specs.declared.stable.StableStamp.{StableStamp}
-use Rattle.clk_record.specs.declared.stable.Demotion.{Demotion}
+use Rattle.clk_latch.specs.Epoch.{Epoch}
 use Rattle.clk_threads.specs.declared.booted.Booted.{Booted}
 use Rattle.clk_threads.specs.declared.booted.Started.{Started}
 

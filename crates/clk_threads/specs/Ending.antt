@@ -7,6 +7,8 @@ use Rattle.clk_base.specs.Blocks.{Covers}
 use Rattle.clk_base.specs.Walk.{EachFrom}
 use Rattle.clk_num.specs.Listed.{Listed}
 use Rattle.clk_ticket.specs.Time.{Time, share_of}
+use Rattle.clk_machine.specs.Limits.{IsWithinLimits}
+use Rattle.clk_machine.specs.Plan.{Plan, cpu_count, thread_at, threads_of}
 use Rattle.clk_record.specs.declared.mode.Mode.TheVariants.{Stable, PerCpu}
 use Rattle.clk_words.specs.declared.view.View.{View}
 use Rattle.clk_words.specs.Bounds.{opens_of}
@@ -15,14 +17,12 @@ use Rattle.clk_words.specs.Fronts.{Begins}
 use Rattle.clk_words.specs.Held.{Held, place_of}
 use Rattle.clk_words.specs.Knowing.{HasAll}
 use Rattle.clk_words.specs.Views.{together}
-use Rattle.clk_machine.specs.Limits.{IsWithinLimits}
-use Rattle.clk_machine.specs.Plan.{Plan, cpu_count, thread_at, threads_of}
-use Rattle.clk_latch.specs.Epoch.{Place as LatchPlace}
 use Rattle.clk_lawful.specs.Checks.{listed}
 use Rattle.clk_lawful.specs.Filling.{MayFill, FillsHistories}
 use Rattle.clk_lawful.specs.declared.event.Event.{Event}
 use Rattle.clk_lawful.specs.declared.trace.Trace.{Trace}
 use Rattle.clk_lawful.specs.declared.trace.WatchTrace.{WatchTrace}
+use Rattle.clk_latch.specs.Epoch.{Place as LatchPlace}
 use Rattle.clk_worker.specs.declared.own.Own.{Own}
 use Rattle.clk_worker.specs.declared.shared.Shared.{Shared}
 use Rattle.clk_worker.specs.Making.{Hand}

@@ -7,10 +7,17 @@ use Rattle.clk_base.specs.Blocks.{Covers}
 use Rattle.clk_base.specs.Walk.{EachFrom}
 use Rattle.clk_num.specs.Listed.{Listed}
 use Rattle.clk_ticket.specs.Time.{Tickets, Time}
-use Rattle.clk_words.specs.declared.kind.SeatKind.{SeatKind}
+use Rattle.clk_machine.specs.Plan.{Plan, cpu_count, thread_at, threads_of}
+use Rattle.clk_machine.specs.Limits.{IsWithinLimits}
+use Rattle.clk_machine.specs.Records.{record_zero}
 use Rattle.clk_record.specs.declared.mode.Mode.TheVariants.{Stable, PerCpu}
-use Rattle.clk_words.specs.declared.opening.Start.{Start}
 use Rattle.clk_record.specs.declared.step.Step.{Step}
+use Rattle.clk_record.specs.declared.up.CpuUp.{CpuUp}
+use Rattle.clk_record.specs.declared.up.BroughtUp.{BroughtUp}
+use Rattle.clk_record.specs.BroughtUp.{IsBroughtUp}
+use Rattle.clk_record.specs.declared.stable.StableStamp.{StableStamp}
+use Rattle.clk_words.specs.declared.kind.SeatKind.{SeatKind}
+use Rattle.clk_words.specs.declared.opening.Start.{Start}
 use Rattle.clk_words.specs.declared.view.View.{View}
 use Rattle.clk_words.specs.Calls.{IsComplete, own_steps}
 use Rattle.clk_words.specs.Fronts.{Begins}
@@ -18,16 +25,6 @@ use Rattle.clk_words.specs.Histories.{opens_at, steps_on}
 use Rattle.clk_words.specs.Parts.{gtod_of, raw_of, part_of, PartBegins}
 use Rattle.clk_words.specs.Rights.{owned_by}
 use Rattle.clk_words.specs.Views.{is_percpu, pairs_known}
-use Rattle.clk_machine.specs.Plan.{Plan, cpu_count, thread_at, threads_of}
-use Rattle.clk_machine.specs.Limits.{IsWithinLimits}
-use Rattle.clk_machine.specs.Records.{record_zero}
-use Rattle.clk_local.specs.Context.{Site, Known}
-use Rattle.clk_record.specs.declared.up.CpuUp.{CpuUp}
-use Rattle.clk_record.specs.declared.up.BroughtUp.{BroughtUp}
-use Rattle.clk_record.specs.BroughtUp.{IsBroughtUp}
-use Rattle.clk_record.specs.declared.stable.StableStamp.{StableStamp}
-use Rattle.clk_demote.specs.Context.{Site as WatchSite, Known as WatchKnown}
-use Rattle.clk_demote.specs.Stamping.{epoch_at}
 use Rattle.clk_lawful.specs.Checks.{listed, demotion_blocks}
 use Rattle.clk_lawful.specs.Demoted.{boot_stamp}
 use Rattle.clk_lawful.specs.Standing.{begins_stable}
@@ -39,6 +36,9 @@ use Rattle.clk_lawful.specs.TicketOrder.{boot_blocks, up_blocks}
 use Rattle.clk_lawful.specs.declared.event.Event.{Event}
 use Rattle.clk_lawful.specs.declared.trace.WatchTrace.{WatchTrace}
 use Rattle.clk_lawful.specs.declared.trace.Trace.{Trace}
+use Rattle.clk_local.specs.Context.{Site, Known}
+use Rattle.clk_demote.specs.Context.{Site as WatchSite, Known as WatchKnown}
+use Rattle.clk_demote.specs.Stamping.{epoch_at}
 use Rattle.clk_worker.specs.Running.{Runs}
 use Rattle.clk_watcher.specs.Checking.{HasWatched}
 use Rattle.clk_threads.specs.Booting.{gtod_offset_of, sched_offset_of, AreStamps, FitsBoot, HasDrawnBefore}

@@ -2,7 +2,7 @@
 use Rattle.std.specs.Prelude.{◌≡◌, ℕ, ◌<◌, Bool, not, ◌&&◌, is_some, List, length, set, slice_index_or, Option, Some, None}
 use Rattle.std.specs.List.{All}
 use Rattle.clk_machine.specs.Plan.{threads_of}
-use Rattle.clk_record.specs.ChecksAsked.{checks_asked}
+use Rattle.clk_record.specs.Watching.{checks_asked}
 use Rattle.clk_lawful.specs.Checks.{listed}
 use Rattle.clk_worker.specs.declared.shared.Shared.{Shared}
 use Rattle.clk_worker.specs.Making.{Hand, script_of, IsGoing}

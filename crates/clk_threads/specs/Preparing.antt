@@ -4,12 +4,6 @@ use Rattle.std.specs.List.{sum_by}
 use Rattle.clk_base.specs.Walk.{EachFrom}
 use Rattle.clk_num.specs.Listed.{Listed}
 use Rattle.clk_ticket.specs.Time.{Time, fresh, without, share_of}
-use Rattle.clk_words.specs.declared.kind.SeatKind.{SeatKind}
-use Rattle.clk_words.specs.declared.kind.SeatKind.TheVariants.{Owner, Reader, Watch}
-use Rattle.clk_words.specs.declared.opening.Start.{Start}
-use Rattle.clk_words.specs.declared.view.View.{View}
-use Rattle.clk_words.specs.Held.{Place, Held}
-use Rattle.clk_words.specs.Views.{first_view, giver_view, given_view}
 use Rattle.clk_machine.specs.declared.script.Word.{Word}
 use Rattle.clk_machine.specs.declared.reading.Published.{Published}
 use Rattle.clk_machine.specs.Plan.{Plan, cpu_count, thread_at, threads_of}
@@ -17,19 +11,24 @@ use Rattle.clk_machine.specs.Limits.{most_tickets, IsWithinLimits}
 use Rattle.clk_machine.specs.Tickets.{tickets_of, word_tickets, watch_tickets}
 use Rattle.clk_machine.specs.Steps.{steps_for}
 use Rattle.clk_machine.specs.Records.{record_zero}
-use Rattle.clk_latch.specs.Epoch.{Epoch, reader_of}
-use Rattle.clk_latch.specs.Epoch.{Place as LatchPlace}
 use Rattle.clk_record.specs.declared.up.CpuUp.{CpuUp}
 use Rattle.clk_record.specs.declared.up.BroughtUp.{BroughtUp}
 use Rattle.clk_record.specs.BroughtUp.{IsBroughtUp}
-use Rattle.clk_lawful.specs.declared.event.Event.{Event}
-use Rattle.clk_lawful.specs.declared.trace.HistoryStep.{HistoryStep}
-use Rattle.clk_record.specs.ChecksAsked.{checks_asked}
-use Rattle.clk_watch.specs.Watching.{started}
+use Rattle.clk_record.specs.Watching.{checks_asked, started}
 use Rattle.clk_record.specs.declared.stable.StableStamp.{StableStamp}
 use Rattle.clk_record.specs.declared.stable.Demotion.{Demotion}
+use Rattle.clk_words.specs.declared.kind.SeatKind.{SeatKind}
+use Rattle.clk_words.specs.declared.kind.SeatKind.TheVariants.{Owner, Reader, Watch}
+use Rattle.clk_words.specs.declared.opening.Start.{Start}
+use Rattle.clk_words.specs.declared.view.View.{View}
+use Rattle.clk_words.specs.Held.{Place, Held}
+use Rattle.clk_words.specs.Views.{first_view, giver_view, given_view}
+use Rattle.clk_lawful.specs.declared.event.Event.{Event}
+use Rattle.clk_lawful.specs.declared.trace.HistoryStep.{HistoryStep}
 use Rattle.clk_lawful.specs.Checks.{listed}
 use Rattle.clk_lawful.specs.declared.trace.WatchTrace.{WatchTrace}
+use Rattle.clk_latch.specs.Epoch.{Epoch, reader_of}
+use Rattle.clk_latch.specs.Epoch.{Place as LatchPlace}
 use Rattle.clk_threads.specs.Booting.{opening_of, sched_offset_of, gtod_offset_of, AreStamps, FitsBoot, HasDrawnBefore, IsDemotedFor}
 use Rattle.clk_threads.specs.declared.opened.Opened.{Opened}
 use Rattle.clk_threads.specs.declared.latches.Latches.{Latches}

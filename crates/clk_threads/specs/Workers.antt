@@ -5,7 +5,7 @@ use Rattle.clk_base.specs.Walk.{EachFrom}
 use Rattle.clk_num.specs.Listed.{Listed}
 use Rattle.clk_machine.specs.Plan.{Plan, thread_at}
 use Rattle.clk_record.specs.declared.stable.StableStamp.{StableStamp}
-use Rattle.clk_record.specs.ChecksAsked.{checks_asked}
+use Rattle.clk_record.specs.Watching.{checks_asked}
 use Rattle.clk_lawful.specs.Checks.{listed}
 use Rattle.clk_lawful.specs.Demoted.{boot_stamp}
 use Rattle.clk_lawful.specs.declared.trace.WatchTrace.{WatchTrace}

@@ -1,8 +1,8 @@
 //! The boot of a machine: the epoch, the stamps of CPU 0, and the offsets by them.
 ghost use Rattle.std.specs.Prelude.{◌≡◌, [], ◌≤◌, IfOk};
+ghost use Rattle.clk_ticket.specs.Time.{fresh};
 ghost use Rattle.clk_machine.specs.Limits.{most_tickets, IsWithinLimits};
 ghost use Rattle.clk_machine.specs.Records.{record_zero};
-ghost use Rattle.clk_ticket.specs.Time.{fresh};
 ghost use Rattle.clk_latch.specs.Epoch.{owner_of};
 ghost use Rattle.clk_threads.specs.Booting.{HasEpoch, MayStampAtBoot, HasStamped, HasStarted, IsBooted};
 

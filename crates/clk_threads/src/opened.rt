@@ -2,8 +2,8 @@
 ghost use Rattle.std.specs.Prelude.{◌≡◌, ◌<◌, ◌≤◌, [], IfOk, length, is_some, Option, Some, None, if◌then◌else◌};
 ghost use Rattle.clk_machine.specs.Plan.{cpu_count, threads_of};
 ghost use Rattle.clk_machine.specs.Limits.{IsWithinLimits};
-ghost use Rattle.clk_words.specs.Views.{first_view};
 ghost use Rattle.clk_record.specs.declared.mode.Mode.TheVariants.{Stable as StableMode, PerCpu as PerCpuMode};
+ghost use Rattle.clk_words.specs.Views.{first_view};
 ghost use Rattle.clk_threads.specs.Booting.{AreStamps, IsDemotedAtBootBy, gtod_offset_of, opening_of};
 ghost use Rattle.clk_threads.specs.Preparing.{kind_on, gave, gave_threads, gave_all, thread_seats, watch_seat, HasOpened};
 

@@ -43,7 +43,7 @@ pub struct Prepared {
     pub boot_demotion: Option<Demotion>,
 }
 
-/// Prepares the run of a machine that [`crate::boot`] booted and [`clk_adjust::bring_up`] brought up, by that boot's
+/// Prepares the run of a machine that [`crate::boot`] booted and `clk_adjust::bring_up` brought up, by that boot's
 /// seat. Where that bring-up of a stable start failed it demotes first: a stamp of CPU 0 ends the stable mode. The
 /// clock words open by the last stamp, each CPU gets its latch by record 0, and each thread its seats, after
 /// `sched_clock_init` and `__set_sched_clock_stable` of Linux 6.1's `kernel/sched/clock.c`, by which every CPU begins

@@ -3,7 +3,7 @@ ghost use Rattle.std.specs.Prelude.{◌≡◌, pos, is_some, if◌then◌else◌
 ghost use Rattle.clk_machine.specs.Plan.{count_of, cpu_count};
 ghost use Rattle.clk_machine.specs.Limits.{IsWithinLimits};
 ghost use Rattle.clk_machine.specs.Tickets.{watch_tickets};
-ghost use Rattle.clk_record.specs.ChecksAsked.{checks_asked};
+ghost use Rattle.clk_record.specs.Watching.{checks_asked};
 
 use clk_machine::Machine;
 

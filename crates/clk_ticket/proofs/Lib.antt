@@ -2,3 +2,4 @@ pub mod Totals
 pub mod Blocks
 pub mod TicketSteps
 pub mod Once
+pub mod Sent

@@ -1,3 +1,4 @@
+pub mod Bringing
 pub mod Accepting
 pub mod Making
 pub mod Numbers

@@ -7,22 +7,22 @@ use Rattle.clk_ticket.specs.Time.{Time}
 use Rattle.clk_machine.specs.declared.parts.BringUpPart.{BringUpPart}
 use Rattle.clk_machine.specs.Plan.{Plan, cpu_count, threads_of}
 use Rattle.clk_record.specs.declared.warp.WarpReading.{WarpReading}
-use Rattle.clk_warp.specs.Pairs.{DrawsFor}
 use Rattle.clk_record.specs.declared.up.CpuUp.{CpuUp}
 use Rattle.clk_record.specs.declared.up.BroughtUp.{BroughtUp}
 use Rattle.clk_record.specs.declared.up.UpOutcome.TheVariants.{Untested}
 use Rattle.clk_record.specs.BroughtUp.{IsLeft, test_of, IsUp, is_failure, failed_after, IsBroughtUp}
 use Rattle.clk_record.specs.WarpReadings.{all_readings}
+use Rattle.clk_warp.specs.Pairs.{DrawsFor}
 use Rattle.clk_lawful.specs.declared.trace.Trace.{Trace}
 use Rattle.clk_lawful.specs.LawfulTrace.{IsLawful}
-use Rattle.clk_threads.specs.declared.booted.Booted.{Booted}
-use Rattle.clk_threads.specs.Booting.{IsBooted, IsBootedFor}
-use Rattle.clk_threads.proofs.Bringing.{booted_for}
 use Rattle.clk_make.specs.Made.{made, made_cpus, made_readers}
 use Rattle.clk_make.specs.Numbers.{made_words, made_tickets, made_steps}
 use Rattle.clk_make.specs.Fixed.{IsRunSized, MachinesAreSized, RunsAreSized}
+use Rattle.clk_threads.specs.declared.booted.Booted.{Booted}
+use Rattle.clk_threads.specs.Booting.{IsBooted, IsBootedFor}
 use Rattle.clk_tool.specs.declared.make.Sizes.{Sizes}
 use Rattle.clk_tool.specs.Make.{steps_of, AreSizesOf, made_sizes}
+use Rattle.clk_tool.proofs.Bringing.{booted_for}
 
 -- ---- CPUs that are left as they were
 

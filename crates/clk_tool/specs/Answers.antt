@@ -1,12 +1,12 @@
 -- What the answers of the program mean.
 use Rattle.std.specs.Prelude.{◌≡◌, ℕ, ◌≤◌, nat_le, List, length, Option, Some, None, Result, Ok, Err, if◌then◌else◌}
 use Rattle.clk_machine.specs.Plan.{Plan}
-use Rattle.clk_file.specs.Acceptance.{accepted}
-use Rattle.clk_file.specs.declared.error.FileError.{FileError}
-use Rattle.clk_file.specs.declared.error.FileError.TheVariants as file
 use Rattle.clk_lawful.specs.TraceText.{text}
 use Rattle.clk_lawful.specs.LawfulTrace.{IsLawful}
 use Rattle.clk_lawful.specs.declared.trace.Trace.{Trace}
+use Rattle.clk_file.specs.Acceptance.{accepted}
+use Rattle.clk_file.specs.declared.error.FileError.{FileError}
+use Rattle.clk_file.specs.declared.error.FileError.TheVariants as file
 use Rattle.clk_tool.specs.Make.{MadeRun}
 use Rattle.clk_tool.specs.Rate.{rate_text}
 use Rattle.clk_tool.specs.Whole.{Came, CameMore}

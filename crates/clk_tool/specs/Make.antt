@@ -4,11 +4,11 @@ use Rattle.std.specs.List.{sum_by}
 use Rattle.clk_base.specs.Text.{line}
 use Rattle.clk_num.specs.Listed.{Listed}
 use Rattle.clk_machine.specs.Plan.{threads_of}
-use Rattle.clk_make.specs.Made.{made, made_cpus, made_readers}
-use Rattle.clk_make.specs.Numbers.{made_words, made_tickets, made_steps}
 use Rattle.clk_lawful.specs.LawfulTrace.{IsLawful}
 use Rattle.clk_lawful.specs.declared.trace.HistoryStep.{HistoryStep}
 use Rattle.clk_lawful.specs.declared.trace.Trace.{Trace}
+use Rattle.clk_make.specs.Made.{made, made_cpus, made_readers}
+use Rattle.clk_make.specs.Numbers.{made_words, made_tickets, made_steps}
 use Rattle.clk_tool.specs.declared.make.Sizes.{Sizes}
 
 -- the steps in all histories

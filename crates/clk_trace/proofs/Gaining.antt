@@ -4,11 +4,10 @@ use Rattle.std.proofs.Math.Seq.{take-append_seam}
 use Rattle.std.proofs.lemmas.List.{map-append, get_or_default}
 use Rattle.std.specs.List.{refill}
 use Rattle.std.proofs.lemmas.List.Elements.{filter-append}
-use Rattle.clk_base.specs.Walk.{EachFrom}
 use Rattle.clk_num.specs.Listed.{Listed}
+use Rattle.clk_record.specs.declared.step.Step.{Step}
 use Rattle.clk_lawful.specs.Filling.{lines_on, Gained, HasRoomFor, Sorts}
 use Rattle.clk_lawful.specs.WordHistory.{Placed, steps_of_kind, steps_from, placed_lift, placed_on, line_of}
-use Rattle.clk_record.specs.declared.step.Step.{Step}
 use Rattle.clk_lawful.specs.declared.event.Event.{Event}
 use Rattle.clk_lawful.specs.declared.trace.HistoryStep.{HistoryStep}
 
@@ -116,15 +115,6 @@ lifts_next thread lifts i d low w =
     ap (λ (xs : List Step). lines_on w (map (placed_lift thread) xs)) (drop-cons lifts i d low)
     ∙ lines_on-append w (p ∷ []) (map (placed_lift thread) (drop (suc i) lifts))
     ∙ ap (λ (n : ℕ). lines_on w (p ∷ []) ++ lines_on w (map (placed_lift thread) (drop n lifts))) (sym (add-one i))
-
--- what holds at each place holds of each item and its number
-pub each_from : {A : Type 0} (P : ℕ → A → Type 0) (n : ℕ) (xs : List A) → ((k : ℕ) (d : A) → k < length xs → P (n + k) (get_or xs k d)) → EachFrom P n xs
-each_from P n [] h = tt
-each_from P n (x ∷ xs) h =
-    let e : n + 0 ≡ n = omega arith in (
-      subst (λ k. P k x) e (h 0 x (omega arith)),
-      each_from P (n + 1) xs (λ k d low. let e : n + suc k ≡ n + 1 + k = omega arith in subst (λ i. P i (get_or xs k d)) e (h (suc k) d (omega arith))),
-    )
 
 -- a slice that was lent out and came back as long
 pub refill_same : {X : Type 0} (xs ws : List X) → length ws ≡ length xs → refill (length xs) xs ws ≡ ws

@@ -4,13 +4,14 @@ use Rattle.std.specs.List.{All}
 use Rattle.std.specs.List.Sorted.{IsPermutation}
 use Rattle.std.proofs.lemmas.List.Sorted.{IsPermutation-refl, IsPermutation-trans, IsPermutation-append_left, IsPermutation-append_right, IsPermutation-append_comm, length_permutation}
 use Rattle.clk_base.specs.Walk.{EachFrom}
+use Rattle.clk_base.proofs.Walks.{each_from}
 use Rattle.clk_num.specs.Listed.{Listed}
 use Rattle.clk_lawful.specs.Filling.{lines_on, lines_left, steps_left, Gained, Keeps, HasRoomFor, AreSorted}
 use Rattle.clk_lawful.specs.WordHistory.{Placed, steps_from, all_steps, lift_steps, steps_of, placed_on, IsHistoryOf}
 use Rattle.clk_lawful.specs.declared.trace.Trace.{Trace}
 use Rattle.clk_lawful.specs.declared.event.Event.{Event}
 use Rattle.clk_lawful.specs.declared.trace.HistoryStep.{HistoryStep}
-use Rattle.clk_trace.proofs.Gaining.{gained_none, gained_more, lines_on-append, each_from}
+use Rattle.clk_trace.proofs.Gaining.{gained_none, gained_more, lines_on-append}
 
 pub keeps_none : (a : List (Listed HistoryStep)) (whole : ℕ → List HistoryStep) → Keeps a a whole whole
 keeps_none a whole = record { kept = λ w. []; parts = λ w. IsPermutation-refl (whole w); gained = gained_none a }

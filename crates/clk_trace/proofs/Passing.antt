@@ -7,12 +7,12 @@ use Rattle.clk_record.specs.declared.visit.SourceRecord.{SourceRecord}
 use Rattle.clk_record.specs.declared.stable.StableStamp.{StableStamp}
 use Rattle.clk_lawful.specs.Lines.{line_text}
 use Rattle.clk_lawful.specs.Lines.Line.{Checking, Current}
-use Rattle.clk_trace.specs.Taking.{Progress, Takes}
 use Rattle.clk_lawful.specs.RightReadings.{NeverFall}
 use Rattle.clk_lawful.specs.Checks.{Visit, Check, visit_by, visits_from, checks_from, checks_of}
 use Rattle.clk_lawful.specs.WritableWatch.{IsSized, visits_after}
-use Rattle.clk_trace.specs.WriterParts.{visit_text, check_text}
 use Rattle.clk_lawful.specs.declared.trace.WatchTrace.{WatchTrace}
+use Rattle.clk_trace.specs.Taking.{Progress, Takes}
+use Rattle.clk_trace.specs.WriterParts.{visit_text, check_text}
 use Rattle.clk_trace.proofs.Taking.{takes_none, takes_more}
 
 -- ---- visits

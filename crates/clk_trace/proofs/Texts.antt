@@ -9,10 +9,10 @@ use Rattle.clk_record.specs.declared.up.CpuUp.{CpuUp}
 use Rattle.clk_lawful.specs.Lines.{Line, step_line, line_text, text_of}
 use Rattle.clk_lawful.specs.Lines.Line.{Run, Turn, Thread, Shown, History}
 use Rattle.clk_lawful.specs.TraceText.{done_line, run_lines, cpu_line, up_lines, word_lines, thread_lines, history_lines}
-use Rattle.clk_trace.specs.WriterParts.{reading_text, run_text, up_text, word_text, thread_text, history_text}
 use Rattle.clk_lawful.specs.declared.event.Event.{Event}
 use Rattle.clk_lawful.specs.declared.trace.HistoryStep.{HistoryStep}
 use Rattle.clk_lawful.specs.declared.trace.Trace.{Trace}
+use Rattle.clk_trace.specs.WriterParts.{reading_text, run_text, up_text, word_text, thread_text, history_text}
 
 pub text_of-append : (ls ms : List Line) → text_of (ls ++ ms) ≡ text_of ls ++ text_of ms
 text_of-append [] ms = refl

@@ -9,8 +9,8 @@ use Rattle.clk_lawful.specs.Lines.{Line, line_text, text_of}
 use Rattle.clk_lawful.specs.Lines.Line.{Demoted, Watchdog, Checking, Attempted, Judged, Stamped, Current}
 use Rattle.clk_lawful.specs.Checks.{Visit, Check, listed, checks_of}
 use Rattle.clk_lawful.specs.TraceText.{lift_line, demotion_lines, visit_lines, check_lines, watch_lines}
-use Rattle.clk_trace.specs.WriterParts.{attempt_text, stamp_text, demotion_text, visit_text, check_text, watch_text}
 use Rattle.clk_lawful.specs.declared.trace.WatchTrace.{WatchTrace}
+use Rattle.clk_trace.specs.WriterParts.{attempt_text, stamp_text, demotion_text, visit_text, check_text, watch_text}
 use Rattle.clk_trace.proofs.Texts.{text_of-both, text_of-flat, text_of-map, text_of-from}
 
 demotion_text_is : (lifts : List Step) (n : ℕ) (d : Demotion) → text_of (demotion_lines lifts d) ≡ demotion_text lifts n d

@@ -7,8 +7,8 @@ use Rattle.clk_lawful.specs.Lines.{Line, line_text, text_of}
 use Rattle.clk_lawful.specs.Lines.Line.{Head, Epoch, Start, Demoted, End}
 use Rattle.clk_lawful.specs.Checks.{listed}
 use Rattle.clk_lawful.specs.TraceText.{boot_line, up_lines, word_lines, thread_lines, watch_lines, history_lines, text}
-use Rattle.clk_trace.specs.WriterParts.{boot_text, up_text, boot_demotion_text, word_text, thread_text, history_text, watch_text}
 use Rattle.clk_lawful.specs.declared.trace.Trace.{Trace}
+use Rattle.clk_trace.specs.WriterParts.{boot_text, up_text, boot_demotion_text, word_text, thread_text, history_text, watch_text}
 use Rattle.clk_trace.proofs.Texts.{text_of-both, text_of-map, ups_text, words_text, threads_text, histories_text}
 use Rattle.clk_trace.proofs.WatchTexts.{watches_text}
 

@@ -3,14 +3,14 @@ ghost use Rattle.std.specs.Prelude.{◌≡◌, ◌<◌, ◌≤◌, ◌++◌, ◌
 ghost use Rattle.std.specs.Fmt.{signed_decimal};
 ghost use Rattle.clk_base.specs.Causes.{Grew, GrewByPrefix, HasCause};
 ghost use Rattle.clk_base.specs.Text.{line, lines_from};
-ghost use Rattle.clk_trace.specs.Taking.{Takes, progress_of};
-ghost use Rattle.clk_trace.specs.Parts.{part_text, part_room};
 ghost use Rattle.clk_record.specs.Verdicts.{adjustment};
 ghost use Rattle.clk_lawful.specs.Lines.{kind_words, line_text, mode_name, side_name as name_of_side, outcome_name as name_of_outcome};
 ghost use Rattle.clk_lawful.specs.TraceText.{text, cpu_line, done_line};
-ghost use Rattle.clk_trace.specs.WriterParts.{event_text, boot_text, up_text, run_text, reading_text, boot_demotion_text, word_text, thread_text, step_text, history_text};
 ghost use Rattle.clk_lawful.specs.Checks.{listed};
 ghost use Rattle.clk_lawful.specs.WritableWatch.{MayWriteWatch};
+ghost use Rattle.clk_trace.specs.Taking.{Takes, progress_of};
+ghost use Rattle.clk_trace.specs.Parts.{part_text, part_room};
+ghost use Rattle.clk_trace.specs.WriterParts.{event_text, boot_text, up_text, run_text, reading_text, boot_demotion_text, word_text, thread_text, step_text, history_text};
 
 use crate::out::Part::{Name, Negated, Signed, Unsigned};
 use crate::out::{Out, Part, WriteFault};

@@ -2,11 +2,11 @@
 ghost use Rattle.std.specs.Prelude.{◌≡◌, ◌+◌, ◌-◌, ◌%◌, ◌<◌, ◌≤◌, ◌++◌, ◌∷◌, [], length, drop, take, codes, decimal, None, if◌then◌else◌};
 ghost use Rattle.std.specs.Fmt.{signed_decimal};
 ghost use Rattle.clk_base.specs.Text.{line, lines_from};
-ghost use Rattle.clk_trace.specs.Taking.{Takes, progress_of};
 ghost use Rattle.clk_lawful.specs.Lines.{line_text};
 ghost use Rattle.clk_lawful.specs.Lines.Line.{Demoted, Checking, Judged};
 ghost use Rattle.clk_lawful.specs.Checks.{listed, first_of, visit_by, checks_of};
 ghost use Rattle.clk_lawful.specs.WritableWatch.{IsSized, MayWriteWatch, visits_after};
+ghost use Rattle.clk_trace.specs.Taking.{Takes, progress_of};
 ghost use Rattle.clk_trace.specs.WriterParts.{attempt_text, stamp_text, lift_text, demotion_text, visit_text, check_text, watch_text};
 
 use crate::out::Out;

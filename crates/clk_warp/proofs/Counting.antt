@@ -5,10 +5,10 @@ use Rattle.std.proofs.lemmas.List.{length_push}
 use Rattle.clk_record.specs.declared.warp.Side.{Side}
 use Rattle.clk_record.specs.declared.warp.Side.TheVariants.{Source, Target}
 use Rattle.clk_record.specs.declared.warp.WarpReading.{WarpReading}
-use Rattle.clk_warp.specs.declared.progress.Progress.{Progress}
-use Rattle.clk_warp.specs.declared.counts.WarpCounts.{WarpCounts}
 use Rattle.clk_record.specs.Sides.{is_same, of_side, turns_of, first_tsc, last_tsc, one_if_changed}
 use Rattle.clk_record.specs.Falls.{Limits, Fall, is_over, is_last, turn_before, is_fall, falls, greatest, changes, has_fall, through_last, greatest_seen}
+use Rattle.clk_warp.specs.declared.progress.Progress.{Progress}
+use Rattle.clk_warp.specs.declared.counts.WarpCounts.{WarpCounts}
 use Rattle.clk_warp.specs.Counts.{progress_of, limits_of, last_side, IsProgressOf, AreCountsOf}
 use Rattle.clk_warp.specs.CountSteps.{at_source, at_target, SameFalls, OneFall, SameProgress, WithProgress, Compares}
 use Rattle.clk_warp.proofs.Placing.{mine_push, theirs_push, turn_push, start_push, last_push, first_push, first_alone, ended_theirs, ended_mine, no_fall, one_fall, greatest_push}

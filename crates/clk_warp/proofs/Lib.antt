@@ -1,6 +1,5 @@
 pub mod Placing
 pub mod Counting
-pub mod Meaning
 pub mod Stating
 pub mod Folding
 pub mod LockSteps

@@ -12,11 +12,11 @@ use Rattle.atomic_table.specs.Table.{Me, Act, keeps, takes, gives, step, stepped
 use Rattle.atomic_table.proofs.Lists.{at_set, set_here, set_else, set_again, exchanged}
 use Rattle.clk_record.specs.declared.warp.Side.{Side}
 use Rattle.clk_record.specs.declared.warp.Side.TheVariants.{Source, Target}
+use Rattle.clk_record.specs.Sides.{other_side}
 use Rattle.clk_warp.specs.declared.section.Section.{Section}
 use Rattle.clk_warp.specs.declared.view.Role.TheVariants.{First, Of, Joined, Spent}
 use Rattle.clk_warp.specs.declared.view.Stage.TheVariants.{Away, Waiting, Called as CalledStage, Inside as InsideStage, Given}
 use Rattle.clk_warp.specs.declared.view.View.{View}
-use Rattle.clk_record.specs.Sides.{other_side}
 use Rattle.clk_warp.specs.Run.{Run, change, IsSection, is_of}
 use Rattle.clk_warp.specs.Sections.{after, AreSections, MayMake}
 use Rattle.clk_warp.specs.LockRule.{Locked, next, serving, rank, place, Known, NoneIs, Kept, knows_ticket, knows_called, knows_inside, knows_given, knows_away, Drew, Called, Took, Gave, Raised}

@@ -13,14 +13,14 @@ use Rattle.clk_machine.specs.Time.{counter_at}
 use Rattle.clk_record.specs.declared.warp.Side.{Side}
 use Rattle.clk_record.specs.declared.warp.Side.TheVariants.{Source, Target}
 use Rattle.clk_record.specs.declared.warp.WarpReading.{WarpReading}
-use Rattle.clk_warp.specs.declared.section.Section.{Section}
-use Rattle.clk_warp.specs.declared.section.Section.TheVariants.{Read, SourceArrives, TargetArrives, Pass}
 use Rattle.clk_record.specs.Sides.{is_same}
 use Rattle.clk_record.specs.Falls.{Limits, each_after, ended_sides, is_last, is_ended}
 use Rattle.clk_record.specs.declared.warp.WarpRun.{WarpRun}
 use Rattle.clk_record.specs.WarpLimits.{limits_in, cpu_of, side_adjust}
-use Rattle.clk_warp.specs.Run.{Run, limits_at, side_ended, ShowsCounter, new_run, change, IsReading}
 use Rattle.clk_record.specs.Warps.{IsWarpRun}
+use Rattle.clk_warp.specs.declared.section.Section.{Section}
+use Rattle.clk_warp.specs.declared.section.Section.TheVariants.{Read, SourceArrives, TargetArrives, Pass}
+use Rattle.clk_warp.specs.Run.{Run, limits_at, side_ended, ShowsCounter, new_run, change, IsReading}
 use Rattle.clk_warp.specs.Sections.{after, AreSections}
 use Rattle.clk_warp.specs.Turns.{Lock, Turn, Closes}
 use Rattle.clk_warp.specs.Working.{readings_of, Works}

@@ -12,16 +12,16 @@ use Rattle.clk_machine.specs.declared.parts.BringUpPart.{BringUpPart}
 use Rattle.clk_record.specs.declared.warp.Side.{Side}
 use Rattle.clk_record.specs.declared.warp.Side.TheVariants.{Source, Target}
 use Rattle.clk_record.specs.declared.warp.WarpReading.{WarpReading}
+use Rattle.clk_record.specs.Sides.{of_side}
+use Rattle.clk_record.specs.Falls.{Limits, AreInTurn, is_ended, is_started}
+use Rattle.clk_record.specs.WarpLimits.{timeout_in, cpu_of, side_adjust}
 use Rattle.clk_warp.specs.declared.progress.Progress.{Progress}
 use Rattle.clk_warp.specs.declared.counts.WarpCounts.{WarpCounts}
 use Rattle.clk_warp.specs.declared.state.Inner.{Inner}
 use Rattle.clk_warp.specs.declared.section.Section.TheVariants.{Read}
-use Rattle.clk_record.specs.Sides.{of_side}
-use Rattle.clk_record.specs.Falls.{Limits, AreInTurn, is_ended, is_started}
 use Rattle.clk_warp.specs.Few.{IsFew}
 use Rattle.clk_warp.specs.Counts.{progress_of, AreCountsOf}
 use Rattle.clk_warp.proofs.Counting.{progress_at}
-use Rattle.clk_record.specs.WarpLimits.{timeout_in, cpu_of, side_adjust}
 use Rattle.clk_warp.specs.Run.{Run, limits_at, most_readings, both_here, side_ended, change, ShowsCounter, IsReading}
 use Rattle.clk_warp.specs.Stated.{run_of, IsKept}
 

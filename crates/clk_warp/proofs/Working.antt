@@ -9,18 +9,18 @@ use Rattle.clk_ticket.specs.Time.{Time, after_draw}
 use Rattle.clk_record.specs.declared.warp.Side.{Side}
 use Rattle.clk_record.specs.declared.warp.Side.TheVariants.{Source, Target}
 use Rattle.clk_record.specs.declared.warp.WarpReading.{WarpReading}
-use Rattle.clk_warp.specs.declared.section.Section.{Section}
-use Rattle.clk_warp.specs.declared.section.Section.TheVariants.{Read, SourceArrives, TargetArrives, Pass}
 use Rattle.clk_record.specs.Sides.{is_same, of_side, first_tsc}
 use Rattle.clk_record.specs.Falls.{Limits, each_after, is_over, is_last, is_ended}
 use Rattle.clk_record.specs.WarpLimits.{limits_in}
+use Rattle.clk_record.proofs.Falls.{same_then}
+use Rattle.clk_warp.specs.declared.section.Section.{Section}
+use Rattle.clk_warp.specs.declared.section.Section.TheVariants.{Read, SourceArrives, TargetArrives, Pass}
 use Rattle.clk_warp.specs.Run.{Run, limits_at, both_here, side_ended, change, IsReading}
 use Rattle.clk_warp.specs.Sections.{after, MayMake, sections_of}
 use Rattle.clk_warp.specs.Turns.{Lock, Turn, Enters, IsChanged, Leaves}
 use Rattle.clk_warp.specs.Working.{readings_of, IsReady}
 use Rattle.clk_warp.proofs.Placing.{mine_push as of_side_mine, theirs_push as of_side_theirs, any_push, any_other}
 use Rattle.clk_warp.proofs.Counting.{same_side}
-use Rattle.clk_warp.proofs.Meaning.{same_then}
 use Rattle.clk_warp.proofs.Folding.{after_push, after_append, both_push, prefix_push}
 
 -- ---- what sections leave as it is

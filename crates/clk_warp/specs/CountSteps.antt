@@ -2,9 +2,9 @@
 use Rattle.std.specs.Prelude.{◌≡◌, ℕ, ◌+◌, ◌-◌, ◌&&◌, not, max, nat_lt, Bool, Some, MatchBool}
 use Rattle.clk_record.specs.declared.warp.Side.{Side}
 use Rattle.clk_record.specs.declared.warp.Side.TheVariants.{Source, Target}
+use Rattle.clk_record.specs.Sides.{one_if_changed}
 use Rattle.clk_warp.specs.declared.progress.Progress.{Progress}
 use Rattle.clk_warp.specs.declared.counts.WarpCounts.{WarpCounts}
-use Rattle.clk_record.specs.Sides.{one_if_changed}
 use Rattle.clk_warp.specs.Counts.{limits_of}
 
 -- one side's value in place of the other's

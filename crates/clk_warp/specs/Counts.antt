@@ -3,9 +3,9 @@ use Rattle.std.specs.Prelude.{◌≡◌, ℕ, Bool, List, [], ◌∷◌, ◌++�
 use Rattle.clk_record.specs.declared.warp.Side.{Side}
 use Rattle.clk_record.specs.declared.warp.Side.TheVariants.{Source, Target}
 use Rattle.clk_record.specs.declared.warp.WarpReading.{WarpReading}
+use Rattle.clk_record.specs.Falls.{Limits, Fall, is_started, start_of, next_turn, is_ended, turn_before, falls, greatest, changes, greatest_seen}
 use Rattle.clk_warp.specs.declared.progress.Progress.{Progress}
 use Rattle.clk_warp.specs.declared.counts.WarpCounts.{WarpCounts}
-use Rattle.clk_record.specs.Falls.{Limits, Fall, is_started, start_of, next_turn, is_ended, turn_before, falls, greatest, changes, greatest_seen}
 
 abbrev pub progress_of : Side → WarpCounts → Progress
 progress_of Source c = c.source

@@ -15,4 +15,4 @@ pub mod TurnSeats
 pub mod Locking
 pub mod Working
 pub mod Pairs
-pub mod Laws
+pub use Rattle.clk_record.specs.FallLaws

@@ -8,11 +8,11 @@ use Rattle.clk_machine.specs.Time.{counter_at}
 use Rattle.clk_record.specs.declared.warp.Side.{Side}
 use Rattle.clk_record.specs.declared.warp.Side.TheVariants.{Source, Target}
 use Rattle.clk_record.specs.declared.warp.WarpReading.{WarpReading}
-use Rattle.clk_warp.specs.declared.section.Section.{Section}
-use Rattle.clk_warp.specs.declared.section.Section.TheVariants.{Read, SourceArrives, TargetArrives, Pass}
 use Rattle.clk_record.specs.Sides.{is_same}
 use Rattle.clk_record.specs.Falls.{Limits, is_started, is_ended}
 use Rattle.clk_record.specs.WarpLimits.{turns_in, limits_in, cpu_of, side_adjust}
+use Rattle.clk_warp.specs.declared.section.Section.{Section}
+use Rattle.clk_warp.specs.declared.section.Section.TheVariants.{Read, SourceArrives, TargetArrives, Pass}
 
 -- the machine, the ticket table, the CPU that is brought up and what it adds to its counter, whether it is here, the
 -- time seat, which the source brings, the readings in lock order, and how many sections were made

@@ -1,8 +1,8 @@
 -- The sections of a run, one after another.
 use Rattle.std.specs.Prelude.{◌≡◌, false, List, [], ◌∷◌, filter}
 use Rattle.clk_record.specs.declared.warp.Side.{Side}
-use Rattle.clk_warp.specs.declared.section.Section.{Section}
 use Rattle.clk_record.specs.Sides.{other_side}
+use Rattle.clk_warp.specs.declared.section.Section.{Section}
 use Rattle.clk_warp.specs.Run.{Run, change, IsSection, is_of}
 
 -- the state after some sections

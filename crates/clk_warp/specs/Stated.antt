@@ -4,11 +4,11 @@ use Rattle.std.specs.List.{All}
 use Rattle.clk_num.specs.Range.{IsNear}
 use Rattle.clk_machine.specs.Plan.{cpu_count}
 use Rattle.atomic_table.specs.Seated.{TableId}
+use Rattle.clk_record.specs.Falls.{AreInTurn}
 use Rattle.clk_warp.specs.declared.counts.WarpCounts.{WarpCounts}
 use Rattle.clk_warp.specs.declared.state.TableOf.{TableOf}
 use Rattle.clk_warp.specs.declared.state.TableOf.TheVariants.{OfSeat, OfTable}
 use Rattle.clk_warp.specs.declared.state.Inner.{Inner}
-use Rattle.clk_record.specs.Falls.{AreInTurn}
 use Rattle.clk_warp.specs.Counts.{AreCountsOf}
 use Rattle.clk_warp.specs.Run.{Run, limits_at, most_readings, both_here, ShowsCounter}
 

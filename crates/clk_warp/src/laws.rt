@@ -1,5 +1,5 @@
 //! What the definitions of a run mean, as laws.
-ghost use Rattle.clk_warp.specs.Laws.{NoFallWhereNoneFalls, GreatestIsMost, SeenIsAtMostGreatest, ChangesWhereSidesChange};
+ghost use Rattle.clk_record.specs.FallLaws.{NoFallWhereNoneFalls, GreatestIsMost, SeenIsAtMostGreatest, ChangesWhereSidesChange};
 
 /// What the counts of a run mean. Where no reading is below one before it, as with counters that never disagree, there
 /// is no fall. No fall is above the greatest, nor is what a side saw. Falls change sides exactly where two falls in a

@@ -8,11 +8,11 @@ ghost use Rattle.clk_machine.specs.Limits.{most_tickets, IsBringUp, IsWithinLimi
 ghost use Rattle.clk_machine.specs.Time.{counter_at};
 ghost use Rattle.clk_record.specs.Sides.{of_side};
 ghost use Rattle.clk_record.specs.declared.warp.Side.TheVariants.{Source, Target};
-ghost use Rattle.clk_warp.specs.declared.section.Section.TheVariants.{Read, Pass};
 ghost use Rattle.clk_record.specs.WarpLimits.{turns_in, limits_in, cpu_of, side_adjust};
+ghost use Rattle.clk_record.specs.Warps.{IsWarpRun};
+ghost use Rattle.clk_warp.specs.declared.section.Section.TheVariants.{Read, Pass};
 ghost use Rattle.clk_warp.specs.Run.{limits_at, most_readings, is_here, both_here as are_here, side_ended, change, IsReading, ShowsCounter, IsStartOf, arrival, new_run, apart_run};
 ghost use Rattle.clk_warp.specs.Counts.{AreCountsOf};
-ghost use Rattle.clk_record.specs.Warps.{IsWarpRun};
 
 use crate::counts::WarpCounts;
 use clk_machine::{BringUpPart, Machine};

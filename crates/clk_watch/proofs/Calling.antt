@@ -11,10 +11,11 @@ use Rattle.clk_record.specs.declared.attempt.Bracket.{Bracket}
 use Rattle.clk_record.specs.declared.visit.Outcome.{Outcome}
 use Rattle.clk_record.specs.declared.visit.SourceRecord.{SourceRecord}
 use Rattle.clk_record.specs.declared.watched.Watched.{Watched}
-use Rattle.clk_watch.specs.Brackets.{Tries, Brackets}
 use Rattle.clk_record.specs.Fold.{outcome_of, is_lost, source_at_first, at_first, left_by, watched_at, attempts_of, last_of, pair_of, after_record, watch_after, IsReadBy, IsVisit, AreVisits}
+use Rattle.clk_record.specs.Watching.{Watching, kept_of}
+use Rattle.clk_watch.specs.Brackets.{Tries, Brackets}
 use Rattle.clk_watch.specs.Visiting.{IsRead, HasFlags, pair_in}
-use Rattle.clk_watch.specs.Watching.{Watching, kept_of, Visits, Checks}
+use Rattle.clk_watch.specs.Visits.{Visits, Checks}
 use Rattle.clk_watch.proofs.Trial.{no_tries}
 use Rattle.clk_watch.proofs.Growing.{named_last, length_after, grow_after, grow_visits, after_push, visits_push}
 use Rattle.clk_watch.proofs.Leaving.{left_same}

@@ -11,8 +11,8 @@ use Rattle.clk_machine.specs.Plan.{Plan}
 use Rattle.clk_record.specs.declared.attempt.Attempt.{Attempt}
 use Rattle.clk_record.specs.declared.attempt.Bracket.{Bracket}
 use Rattle.clk_record.specs.declared.attempt.Bracket.TheVariants.{Slow}
-use Rattle.clk_watch.specs.Draws.{DrawsEach}
 use Rattle.clk_record.specs.Attempts.{decided, retries_of, IsRightAttempt}
+use Rattle.clk_watch.specs.Draws.{DrawsEach}
 use Rattle.clk_watch.specs.Brackets.{Tries, Brackets}
 use Rattle.clk_watch.specs.Trying.{TriesOnce}
 use Rattle.clk_watch.proofs.Drawing.{no_draws, then_draws}

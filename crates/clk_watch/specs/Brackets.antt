@@ -6,8 +6,8 @@ use Rattle.clk_ticket.specs.Time.{Time}
 use Rattle.clk_machine.specs.Plan.{Plan}
 use Rattle.clk_record.specs.declared.attempt.Attempt.{Attempt}
 use Rattle.clk_record.specs.declared.attempt.Bracket.{Bracket}
-use Rattle.clk_watch.specs.Draws.{DrawsEach}
 use Rattle.clk_record.specs.Attempts.{IsRightAttempt, IsBracket}
+use Rattle.clk_watch.specs.Draws.{DrawsEach}
 
 -- ---- what a call does to the list of attempts
 

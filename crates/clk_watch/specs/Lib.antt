@@ -1,11 +1,11 @@
-pub use Rattle.clk_record.specs.ChecksAsked
 pub use Rattle.clk_record.specs.Attempts
 pub mod Draws
 pub mod Brackets
 pub mod Trying
 pub use Rattle.clk_record.specs.Fold
+pub use Rattle.clk_record.specs.Watching
 pub mod Visiting
-pub mod Watching
+pub mod Visits
 pub mod Laws
 pub mod Small
 pub mod WatchKept

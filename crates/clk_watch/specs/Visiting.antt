@@ -10,8 +10,8 @@ use Rattle.clk_record.specs.declared.visit.Outcome.{Outcome}
 use Rattle.clk_record.specs.declared.watched.Pair.{Pair}
 use Rattle.clk_record.specs.declared.watched.Watched.{Watched}
 use Rattle.clk_record.specs.Attempts.{retries_of}
-use Rattle.clk_watch.specs.Brackets.{Tries}
 use Rattle.clk_record.specs.Fold.{is_good, IsCurrent, IsReadBy}
+use Rattle.clk_watch.specs.Brackets.{Tries}
 
 -- a source was read, if it is not unstable, and these attempts were made and appended
 pub record IsRead (m : Plan) (cpu : ℕ) (adjust : ℤ) (s : ℕ) (w : Watched) (before after : Listed Attempt) (t u : Time) (ends : Option Bracket) : Type 0 where

@@ -3,8 +3,8 @@ use Rattle.std.specs.Prelude.{◌≡◌, ◌+◌, ◌^◌, ◌≤◌, length}
 use Rattle.std.specs.List.{All}
 use Rattle.clk_machine.specs.Plan.{count_of}
 use Rattle.clk_machine.specs.Limits.{IsWithinLimits}
-use Rattle.clk_watch.specs.declared.watch.Watch.TheInside.{Inside}
 use Rattle.clk_record.specs.Fold.{at_first, watch_after, AreVisits}
+use Rattle.clk_watch.specs.declared.watch.Watch.TheInside.{Inside}
 use Rattle.clk_watch.specs.Small.{IsSmallWatched}
 
 pub record IsKept (w : Inside) : Type 0 where

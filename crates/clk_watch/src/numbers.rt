@@ -4,7 +4,7 @@ ghost use Rattle.clk_machine.specs.Plan.{count_of};
 ghost use Rattle.clk_machine.specs.Limits.{IsWithinLimits};
 ghost use Rattle.clk_record.specs.Attempts.{skew_of, retries_of, reference_ns as reference_ns_of};
 ghost use Rattle.clk_record.specs.Fold.{margin_of, source_ns as source_ns_of};
-ghost use Rattle.clk_watch.specs.Watching.{most_visits};
+ghost use Rattle.clk_record.specs.Watching.{most_visits};
 ghost use Rattle.clk_watch.specs.Small.{IsSmall};
 
 use clk_machine::Machine;

@@ -4,8 +4,8 @@ ghost use Rattle.clk_num.specs.Range.{IsNear};
 ghost use Rattle.clk_ticket.specs.Time.{Draws};
 ghost use Rattle.clk_machine.specs.Plan.{cpu_count};
 ghost use Rattle.clk_machine.specs.Limits.{most_tickets, IsWithinLimits};
-ghost use Rattle.clk_watch.specs.Draws.{DrawsEach};
 ghost use Rattle.clk_record.specs.Attempts.{reference_shown, source_reading, IsRightAttempt};
+ghost use Rattle.clk_watch.specs.Draws.{DrawsEach};
 ghost use Rattle.clk_watch.specs.Small.{IsSmall, IsSmallAttempt};
 
 use crate::numbers::count;

@@ -6,7 +6,7 @@ ghost use Rattle.clk_machine.specs.Plan.{count_of, cpu_count, source_plan};
 ghost use Rattle.clk_machine.specs.Limits.{IsWithinLimits, IsSource};
 ghost use Rattle.clk_record.specs.Attempts.{retries_of};
 ghost use Rattle.clk_record.specs.Fold.{source_at_first, at_first, is_lost};
-ghost use Rattle.clk_watch.specs.Watching.{Visits};
+ghost use Rattle.clk_watch.specs.Visits.{Visits};
 ghost use Rattle.clk_watch.specs.Small.{IsSmallBracket, IsSmallWatched};
 ghost use Rattle.clk_watch.specs.Visiting.{IsRead, HasFlags, pair_in};
 

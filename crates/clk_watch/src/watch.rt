@@ -3,9 +3,10 @@ ghost use Rattle.std.specs.Prelude.{◌≡◌, ◌+◌, ◌*◌, ◌<◌, ◌≤
 ghost use Rattle.clk_num.specs.Range.{IsNear};
 ghost use Rattle.clk_machine.specs.Plan.{cpu_count};
 ghost use Rattle.clk_record.specs.Attempts.{retries_of};
-ghost use Rattle.clk_watch.specs.Brackets.{Brackets};
 ghost use Rattle.clk_record.specs.Fold.{at_first, ratings_of, IsCurrent, AreVisits};
-ghost use Rattle.clk_watch.specs.Watching.{Watching, kept_of, started, Checks};
+ghost use Rattle.clk_record.specs.Watching.{Watching, kept_of, started};
+ghost use Rattle.clk_watch.specs.Brackets.{Brackets};
+ghost use Rattle.clk_watch.specs.Visits.{Checks};
 
 use crate::numbers::{count, retries, visits};
 use crate::place::current_place;
@@ -21,8 +22,9 @@ use std::snapshot::Snapshot;
 
 /// What a watchdog keeps of the sources of a machine, with all attempts and records so far.
 ///
-/// A contract sees a `Watching` (`specs/Watching.antt`): the machine, whether its TSC source was lost at boot, the
-/// attempts and the records. What is kept of the sources is the fold of the records over their attempts, `kept_of`.
+/// A contract sees a `Watching` (`specs/Watching.antt` of `clk_record`): the machine, whether its TSC source was lost
+/// at boot, the attempts and the records. What is kept of the sources is the fold of the records over their attempts,
+/// `kept_of`.
 #[derive(Drop)]
 pub struct Watch {
     sources: List<Watched>,
@@ -34,7 +36,7 @@ pub struct Watch {
 }
 
 impl Model for Watch {
-    ghost use Rattle.clk_watch.specs.Watching.{Watching};
+    ghost use Rattle.clk_record.specs.Watching.{Watching};
 
     ghost Value = { Watching };
 

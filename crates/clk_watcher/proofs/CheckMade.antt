@@ -10,12 +10,12 @@ use Rattle.clk_machine.specs.Plan.{Plan, SourcePlan, cpu_count}
 use Rattle.clk_machine.specs.Limits.{IsWithinLimits}
 use Rattle.clk_record.specs.Attempts.{retries_of}
 use Rattle.clk_record.specs.Fold.{at_first, ratings_of, IsCurrent, AreVisits}
-use Rattle.clk_watch.specs.Watching.{Watching, kept_of}
-use Rattle.clk_demote.specs.Context.{site_of, Keeps}
+use Rattle.clk_record.specs.Watching.{Watching, kept_of}
 use Rattle.clk_lawful.specs.Checks.{Check, listed, pause_of}
 use Rattle.clk_lawful.specs.RightReadings.{check_cpu}
 use Rattle.clk_lawful.specs.Watchdog.{IsPass}
 use Rattle.clk_lawful.specs.declared.trace.WatchTrace.{WatchTrace}
+use Rattle.clk_demote.specs.Context.{site_of, Keeps}
 use Rattle.clk_worker.specs.declared.shared.Shared.{Shared}
 use Rattle.clk_watcher.specs.Checking.{ShowsPause, WatchesVisits, WatchesCheck}
 use Rattle.clk_watcher.specs.VisitsKept.{KeepsVisits, KeepsDemotion}

@@ -4,21 +4,21 @@ use Rattle.std.specs.List.{All, AllZip}
 use Rattle.clk_num.specs.Listed.{Listed}
 use Rattle.clk_num.specs.Range.{IsNear, IsFrom0To}
 use Rattle.clk_ticket.specs.Time.{Tickets, Time}
+use Rattle.clk_machine.specs.Plan.{Plan, cpu_count}
+use Rattle.clk_machine.specs.Limits.{IsWithinLimits}
+use Rattle.clk_machine.specs.Records.{above_base}
+use Rattle.clk_record.specs.declared.stable.StableStamp.{StableStamp}
+use Rattle.clk_record.specs.declared.stable.Demotion.{Demotion}
+use Rattle.clk_record.specs.Demotions.{offset_by}
 use Rattle.clk_words.specs.Held.{Held, place_of}
 use Rattle.clk_words.specs.Held.{Place as WordsPlace}
 use Rattle.clk_words.specs.Histories.{opens_at}
 use Rattle.clk_words.specs.Knowing.{MayDemote}
-use Rattle.clk_machine.specs.Plan.{Plan, cpu_count}
-use Rattle.clk_machine.specs.Limits.{IsWithinLimits}
-use Rattle.clk_machine.specs.Records.{above_base}
-use Rattle.clk_latch.specs.Epoch.{Place}
-use Rattle.clk_local.specs.Context.{BeginsAtBase}
-use Rattle.clk_record.specs.declared.stable.StableStamp.{StableStamp}
-use Rattle.clk_record.specs.declared.stable.Demotion.{Demotion}
-use Rattle.clk_demote.specs.Context.{site_of, IsUnlifted, Keeps}
-use Rattle.clk_record.specs.Demotions.{offset_by}
 use Rattle.clk_lawful.specs.Checks.{listed}
 use Rattle.clk_lawful.specs.declared.trace.WatchTrace.{WatchTrace}
+use Rattle.clk_latch.specs.Epoch.{Place}
+use Rattle.clk_local.specs.Context.{BeginsAtBase}
+use Rattle.clk_demote.specs.Context.{site_of, IsUnlifted, Keeps}
 use Rattle.clk_worker.specs.declared.shared.Shared.{Shared}
 use Rattle.clk_watcher.specs.Calling.{Context, known, HasPartsOf, IsContext, Stands, IsStable}
 use Rattle.clk_watcher.specs.Making.{site_at, has, SeatsServe}

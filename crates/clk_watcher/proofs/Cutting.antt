@@ -6,16 +6,16 @@ use Rattle.std.proofs.Math.Seq.{take-append_seam, drop-append_seam}
 use Rattle.std.proofs.lemmas.List.{append-nil}
 use Rattle.std.proofs.lemmas.List.Concat.{flat_map-cons}
 use Rattle.std.proofs.lemmas.List.Elements.{All-nil, All-cons}
-use Rattle.clk_words.specs.declared.opening.Start.{Start}
 use Rattle.clk_record.specs.declared.attempt.Attempt.{Attempt}
 use Rattle.clk_record.specs.declared.visit.SourceRecord.{SourceRecord}
 use Rattle.clk_record.specs.Fold.{attempts_of}
 use Rattle.clk_record.specs.declared.stable.StableStamp.{StableStamp}
 use Rattle.clk_record.specs.declared.stable.Demotion.{Demotion}
-use Rattle.clk_demote.specs.Lifts.{lifts_of}
+use Rattle.clk_words.specs.declared.opening.Start.{Start}
 use Rattle.clk_lawful.specs.Checks.{Visit, Check, listed, first_of, visit_by, visits_from, checks_from}
 use Rattle.clk_lawful.specs.RightReadings.{NeverFall}
 use Rattle.clk_lawful.specs.Watchdog.{NamesAll}
+use Rattle.clk_demote.specs.Lifts.{lifts_of}
 use Rattle.clk_watcher.specs.VisitsKept.{AreNamed, lifts_in, demoted_after, ends_from, visits_in}
 use Rattle.clk_watcher.proofs.Called.{NoneIn, AllCalled, demoted_here}
 

@@ -6,7 +6,7 @@ use Rattle.std.proofs.lemmas.List.{length-map}
 use Rattle.std.proofs.lemmas.List.Elements.{All-nil, All-cons}
 use Rattle.clk_base.specs.Walk.{EachFrom}
 use Rattle.clk_record.specs.Fold.{source_at_first, at_first, AreVisits}
-use Rattle.clk_record.specs.ChecksAsked.{checks_asked}
+use Rattle.clk_record.specs.Watching.{checks_asked}
 use Rattle.clk_lawful.specs.Checks.{Visit, Check, listed, visits_of, checks_of}
 use Rattle.clk_lawful.specs.Checks.{checks_from, visits_from}
 use Rattle.clk_lawful.specs.RightReadings.{NeverFall}

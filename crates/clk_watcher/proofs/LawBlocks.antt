@@ -8,12 +8,12 @@ use Rattle.clk_base.specs.Blocks.{end_of, Rises, RisesFrom}
 use Rattle.clk_base.proofs.Rising.{rises_back, rises_from}
 use Rattle.clk_ticket.specs.Time.{Time, Draws, share_of}
 use Rattle.clk_record.specs.declared.attempt.Attempt.{Attempt}
-use Rattle.clk_watch.specs.Draws.{single}
 use Rattle.clk_record.specs.declared.stable.StableStamp.{StableStamp}
 use Rattle.clk_record.specs.declared.stable.Demotion.{Demotion}
-use Rattle.clk_demote.specs.Context.{Site, Known}
+use Rattle.clk_watch.specs.Draws.{single}
 use Rattle.clk_lawful.specs.Checks.{Visit, Check, listed, one, stamp_blocks, demotion_blocks, visit_blocks, check_blocks, watch_blocks, pause_of}
 use Rattle.clk_lawful.specs.RightReadings.{check_cpu}
+use Rattle.clk_demote.specs.Context.{Site, Known}
 use Rattle.clk_watcher.specs.Checking.{ShowsAttempts, StampsAt, DemotesAt, WatchesVisit, WatchesVisits, WatchesCheck, Watches}
 
 -- these blocks were gained; no share was lost, and blocks that rose still do

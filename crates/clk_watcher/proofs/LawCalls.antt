@@ -12,9 +12,9 @@ use Rattle.clk_record.specs.declared.visit.Outcome.TheVariants.{Passed}
 use Rattle.clk_record.specs.declared.visit.SourceRecord.{SourceRecord}
 use Rattle.clk_record.specs.declared.watched.Watched.{Watched}
 use Rattle.clk_record.specs.Fold.{is_good, is_lost, at_first, source_at_first, attempts_of, after_record, IsVisit, AreVisits}
-use Rattle.clk_watch.proofs.Staying.{demoted_stays}
 use Rattle.clk_record.specs.declared.stable.StableStamp.{StableStamp}
 use Rattle.clk_record.specs.declared.stable.Demotion.{Demotion}
+use Rattle.clk_watch.proofs.Staying.{demoted_stays}
 use Rattle.clk_lawful.specs.Checks.{Visit, listed, visits_from, visits_of}
 use Rattle.clk_lawful.specs.Watchdog.{AreChecks, AreCalledFor}
 use Rattle.clk_lawful.specs.declared.trace.WatchTrace.{WatchTrace}

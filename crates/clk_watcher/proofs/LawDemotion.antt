@@ -8,10 +8,10 @@ use Rattle.std.proofs.lemmas.Grind.{flat_map-append}
 use Rattle.clk_base.specs.Walk.{EachFrom}
 use Rattle.clk_record.specs.declared.stable.StableStamp.{StableStamp}
 use Rattle.clk_record.specs.declared.stable.Demotion.{Demotion}
-use Rattle.clk_demote.specs.Context.{Site, Known}
-use Rattle.clk_demote.specs.Shows.{ShowsDemotion}
 use Rattle.clk_lawful.specs.Checks.{Visit, Check, listed}
 use Rattle.clk_lawful.specs.RightReadings.{check_cpu}
+use Rattle.clk_demote.specs.Context.{Site, Known}
+use Rattle.clk_demote.specs.Shows.{ShowsDemotion}
 use Rattle.clk_watcher.specs.Checking.{DemotesAt, WatchesVisit, WatchesVisits, WatchesCheck, Watches}
 use Rattle.clk_watcher.proofs.LawStamps.{visits_in, stamps_of, demotions_of, GoesBy, goes_none, goes_then, stamped_goes, visit_goes, check_goes, Stays, stays_same, stays_then, stamped_stays, pause_stays}
 

@@ -16,16 +16,16 @@ use Rattle.clk_machine.specs.Time.{gtod_at}
 use Rattle.clk_machine.specs.Records.{IsRightReading}
 use Rattle.clk_machine.specs.declared.reading.RawReading.{RawReading}
 use Rattle.clk_machine.specs.declared.reading.Published.{Published}
+use Rattle.clk_record.specs.declared.stable.StableStamp.{StableStamp}
+use Rattle.clk_record.specs.declared.stable.Demotion.{Demotion}
+use Rattle.clk_lawful.specs.Checks.{Visit, Check, listed}
+use Rattle.clk_lawful.specs.RightReadings.{taken_stamp, stamps_in, IsRightVisit, check_cpu, named_in, NeverFall}
 use Rattle.clk_latch.specs.Epoch.{Epoch}
 use Rattle.clk_latch.proofs.Prefixes.{prefix_self, prefix_trans, prefix_length}
 use Rattle.clk_latch.proofs.Staying.{stay_right}
-use Rattle.clk_record.specs.declared.stable.StableStamp.{StableStamp}
-use Rattle.clk_record.specs.declared.stable.Demotion.{Demotion}
 use Rattle.clk_demote.specs.Context.{Site, Known}
 use Rattle.clk_demote.specs.Shows.{adjust_at, TakesStamp}
 use Rattle.clk_demote.specs.Stamping.{epoch_at, ReadsAt}
-use Rattle.clk_lawful.specs.Checks.{Visit, Check, listed}
-use Rattle.clk_lawful.specs.RightReadings.{taken_stamp, stamps_in, IsRightVisit, check_cpu, named_in, NeverFall}
 use Rattle.clk_watcher.specs.Checking.{StampsAt, DemotesAt, WatchesVisit, WatchesVisits, WatchesCheck, Watches}
 
 -- what was seen of each CPU's records begins what is seen

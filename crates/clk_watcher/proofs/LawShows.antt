@@ -4,22 +4,22 @@ use Rattle.std.specs.Prelude.{is_some}
 use Rattle.std.specs.List.{All}
 use Rattle.std.proofs.lemmas.Grind.{flat_map-append}
 use Rattle.clk_base.specs.Walk.{EachFrom}
-use Rattle.clk_words.specs.declared.opening.Start.{Start}
+use Rattle.clk_machine.specs.Plan.{Plan, cpu_count}
+use Rattle.clk_machine.specs.Limits.{IsWithinLimits}
 use Rattle.clk_record.specs.declared.step.Step.{Step}
+use Rattle.clk_record.specs.declared.stable.StableStamp.{StableStamp}
+use Rattle.clk_record.specs.declared.stable.Demotion.{Demotion}
+use Rattle.clk_record.specs.Demotions.{IsDemotion}
+use Rattle.clk_words.specs.declared.opening.Start.{Start}
 use Rattle.clk_words.specs.declared.view.View.{View}
 use Rattle.clk_words.specs.declared.view.Part.{Part}
 use Rattle.clk_words.specs.Histories.{opens_at}
 use Rattle.clk_words.specs.Parts.{gtod_of, raw_of, part_of}
-use Rattle.clk_machine.specs.Plan.{Plan, cpu_count}
-use Rattle.clk_machine.specs.Limits.{IsWithinLimits}
-use Rattle.clk_record.specs.declared.stable.StableStamp.{StableStamp}
-use Rattle.clk_record.specs.declared.stable.Demotion.{Demotion}
-use Rattle.clk_demote.specs.Context.{Site, Known}
-use Rattle.clk_record.specs.Demotions.{IsDemotion}
-use Rattle.clk_demote.specs.Lifts.{lifts_of}
 use Rattle.clk_lawful.specs.Checks.{Visit, listed, visits_of, checks_of}
 use Rattle.clk_lawful.specs.Demoted.{HasOffset, last_stamp}
 use Rattle.clk_lawful.specs.declared.trace.WatchTrace.{WatchTrace}
+use Rattle.clk_demote.specs.Context.{Site, Known}
+use Rattle.clk_demote.specs.Lifts.{lifts_of}
 use Rattle.clk_watcher.specs.Checking.{KeepsLifts, HasWatched}
 use Rattle.clk_watcher.specs.Shown.{IsLift, DemotedShows, WatchedIsShown}
 use Rattle.clk_watcher.proofs.LawBlocks.{watches_gain, watches_rise}

@@ -4,12 +4,12 @@ use Rattle.std.proofs.Common.{◌≡◌, ℕ, ◌+◌, ℤ, List, [], ◌∷◌,
 use Rattle.std.specs.List.{All, flat_map}
 use Rattle.std.proofs.lemmas.List.Elements.{All-nil, All-cons, All-append}
 use Rattle.std.proofs.lemmas.Grind.{flat_map-append}
-use Rattle.clk_words.specs.declared.view.View.{View}
 use Rattle.clk_record.specs.declared.stable.StableStamp.{StableStamp}
 use Rattle.clk_record.specs.declared.stable.Demotion.{Demotion}
-use Rattle.clk_demote.specs.Context.{Site, Known}
+use Rattle.clk_words.specs.declared.view.View.{View}
 use Rattle.clk_lawful.specs.Checks.{Visit, Check, listed}
 use Rattle.clk_lawful.specs.Demoted.{HasOffset, last_stamp}
+use Rattle.clk_demote.specs.Context.{Site, Known}
 use Rattle.clk_watcher.specs.Checking.{StampsAt, DemotesAt, WatchesVisit, WatchesVisits, WatchesCheck, Watches}
 
 -- the visits of some checks, and what they took

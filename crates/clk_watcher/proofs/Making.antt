@@ -9,7 +9,6 @@ use Rattle.std.proofs.lemmas.List.Concat.{flat_map-cons}
 use Rattle.std.proofs.lemmas.List.Elements.{All-nil, All-push, AllZip-push}
 use Rattle.clk_base.specs.Walk.{EachFrom}
 use Rattle.clk_ticket.specs.Time.{Time}
-use Rattle.clk_words.specs.declared.opening.Start.{Start}
 use Rattle.clk_machine.specs.declared.parts.WatchPart.{WatchPart}
 use Rattle.clk_machine.specs.Plan.{Plan, cpu_count}
 use Rattle.clk_machine.specs.Limits.{IsWithinLimits, IfThere, IsWatch}
@@ -19,15 +18,15 @@ use Rattle.clk_record.specs.declared.visit.SourceRecord.{SourceRecord}
 use Rattle.clk_record.specs.declared.watched.Watched.{Watched}
 use Rattle.clk_record.specs.Attempts.{retries_of}
 use Rattle.clk_record.specs.Fold.{at_first, after_record, watch_after, ratings_of, IsCurrent, AreVisits}
-use Rattle.clk_record.specs.ChecksAsked.{checks_asked}
-use Rattle.clk_watch.specs.Watching.{Watching, most_visits}
-use Rattle.clk_watch.proofs.Growing.{grow_after}
+use Rattle.clk_record.specs.Watching.{checks_asked, Watching, most_visits}
 use Rattle.clk_record.specs.declared.stable.Demotion.{Demotion}
-use Rattle.clk_demote.specs.Context.{Site, Known}
-use Rattle.clk_demote.specs.Lifts.{lifts_of}
+use Rattle.clk_words.specs.declared.opening.Start.{Start}
+use Rattle.clk_watch.proofs.Growing.{grow_after}
 use Rattle.clk_lawful.specs.Checks.{Visit, Check, listed}
 use Rattle.clk_lawful.specs.Watchdog.{IsPass}
 use Rattle.clk_lawful.specs.declared.trace.WatchTrace.{WatchTrace}
+use Rattle.clk_demote.specs.Context.{Site, Known}
+use Rattle.clk_demote.specs.Lifts.{lifts_of}
 use Rattle.clk_worker.specs.declared.shared.Shared.{Shared}
 use Rattle.clk_watcher.specs.Checking.{WatchesCheck, KeepsLifts}
 use Rattle.clk_watcher.specs.VisitsKept.{AreCalled, AreNamed, lifts_in, KeepsDemotion, ends_from, visits_in, KeepsChecks}

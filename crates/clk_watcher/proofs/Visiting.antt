@@ -8,19 +8,20 @@ use Rattle.std.proofs.lemmas.List.Sums.{sum_by-append, sum_by-take-le, sum_by-dr
 use Rattle.clk_num.specs.Listed.{Listed}
 use Rattle.clk_num.specs.Range.{IsNear}
 use Rattle.clk_ticket.specs.Time.{Time}
-use Rattle.clk_words.specs.Held.{Place}
 use Rattle.clk_machine.specs.Plan.{Plan, SourcePlan, cpu_count}
 use Rattle.clk_machine.specs.Limits.{IsWithinLimits}
 use Rattle.clk_machine.specs.Time.{source_plan_at}
 use Rattle.clk_record.specs.declared.visit.SourceRecord.{SourceRecord}
 use Rattle.clk_record.specs.Attempts.{retries_of, IsRightAttempt}
 use Rattle.clk_record.specs.Fold.{is_good, is_lost, ends_check}
-use Rattle.clk_watch.specs.Watching.{Watching, Checks}
-use Rattle.clk_demote.specs.Context.{site_of, IsOfMachine, Keeps}
-use Rattle.clk_demote.specs.Shows.{adjust_at}
+use Rattle.clk_record.specs.Watching.{Watching}
+use Rattle.clk_words.specs.Held.{Place}
+use Rattle.clk_watch.specs.Visits.{Checks}
 use Rattle.clk_lawful.specs.Checks.{Visit, listed}
 use Rattle.clk_lawful.specs.Watchdog.{IsPass}
 use Rattle.clk_lawful.specs.declared.trace.WatchTrace.{WatchTrace}
+use Rattle.clk_demote.specs.Context.{site_of, IsOfMachine, Keeps}
+use Rattle.clk_demote.specs.Shows.{adjust_at}
 use Rattle.clk_watcher.specs.Checking.{WatchesVisits}
 use Rattle.clk_watcher.specs.VisitsKept.{KeepsVisits, KeepsDemotion, lifts_in}
 use Rattle.clk_watcher.specs.Calling.{Context, known, Stands, IsStable, stamps_at, visit_tickets, HasRoomFor, UsesFor, Follows, MakesVisits, MakesVisit, MakesPass}

@@ -5,13 +5,13 @@ use Rattle.std.specs.List.{flat_map}
 use Rattle.std.proofs.lemmas.List.{append-nil, map-append}
 use Rattle.std.proofs.lemmas.Grind.{flat_map-append}
 use Rattle.std.proofs.lemmas.List.Concat.{flat_map-cons}
-use Rattle.clk_words.specs.declared.opening.Start.{Start}
-use Rattle.clk_words.specs.declared.view.View.{View}
 use Rattle.clk_record.specs.declared.stable.StableStamp.{StableStamp}
 use Rattle.clk_record.specs.declared.stable.Demotion.{Demotion}
-use Rattle.clk_demote.specs.Context.{Site, Known}
+use Rattle.clk_words.specs.declared.opening.Start.{Start}
+use Rattle.clk_words.specs.declared.view.View.{View}
 use Rattle.clk_lawful.specs.Checks.{Visit, Check, listed}
 use Rattle.clk_lawful.specs.declared.trace.WatchTrace.{WatchTrace}
+use Rattle.clk_demote.specs.Context.{Site, Known}
 use Rattle.clk_watcher.specs.Checking.{StampsAt, DemotesAt, WatchesVisit, WatchesVisits, WatchesCheck, Watches}
 use Rattle.clk_watcher.specs.VisitsKept.{AreCalled, AreNamed, KeepsVisits, lifts_in, demoted_after, KeepsDemotion, KeepsRest}
 

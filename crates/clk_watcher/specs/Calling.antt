@@ -3,24 +3,24 @@ use Rattle.std.specs.Prelude.{◌≡◌, ℕ, ◌+◌, ◌*◌, ◌^◌, ◌≤�
 use Rattle.std.specs.List.{sum_by}
 use Rattle.clk_num.specs.Range.{IsNear}
 use Rattle.clk_ticket.specs.Time.{Time, Draws}
-use Rattle.clk_words.specs.Knowing.{MayDemote}
 use Rattle.clk_machine.specs.Plan.{Plan, SourcePlan, cpu_count}
 use Rattle.clk_machine.specs.Time.{source_plan_at}
 use Rattle.clk_machine.specs.Limits.{IsWithinLimits}
-use Rattle.clk_latch.specs.Epoch.{Place}
 use Rattle.clk_record.specs.declared.visit.SourceRecord.{SourceRecord}
 use Rattle.clk_record.specs.Attempts.{retries_of}
 use Rattle.clk_record.specs.Fold.{ends_check, at_first, ratings_of, IsCurrent, AreVisits}
-use Rattle.clk_watch.specs.Watching.{kept_of}
-use Rattle.clk_demote.specs.declared.context.WatchCtx.{WatchCtx}
+use Rattle.clk_record.specs.Watching.{kept_of}
 use Rattle.clk_record.specs.declared.stable.StableStamp.{StableStamp}
 use Rattle.clk_record.specs.declared.stable.Demotion.{Demotion}
-use Rattle.clk_demote.specs.Context.{Known, site_of, known_of, IsSeated, IsOfMachine, IsUsable, Keeps}
-use Rattle.clk_demote.specs.Lifts.{lifts_of}
-use Rattle.clk_demote.specs.Shows.{ShowsStableStamp, ShowsDemotion}
+use Rattle.clk_words.specs.Knowing.{MayDemote}
 use Rattle.clk_lawful.specs.Checks.{Visit, listed, pause_of}
 use Rattle.clk_lawful.specs.Watchdog.{IsPass}
 use Rattle.clk_lawful.specs.declared.trace.WatchTrace.{WatchTrace}
+use Rattle.clk_latch.specs.Epoch.{Place}
+use Rattle.clk_demote.specs.declared.context.WatchCtx.{WatchCtx}
+use Rattle.clk_demote.specs.Context.{Known, site_of, known_of, IsSeated, IsOfMachine, IsUsable, Keeps}
+use Rattle.clk_demote.specs.Lifts.{lifts_of}
+use Rattle.clk_demote.specs.Shows.{ShowsStableStamp, ShowsDemotion}
 use Rattle.clk_worker.specs.declared.shared.Shared.{Shared}
 use Rattle.clk_watcher.specs.Checking.{StampsAt, DemotesAt, WatchesVisits}
 use Rattle.clk_watcher.specs.VisitsKept.{KeepsVisits, KeepsDemotion, KeepsRest, lifts_in}

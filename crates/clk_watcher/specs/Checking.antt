@@ -5,17 +5,17 @@ use Rattle.clk_ticket.specs.Time.{Draws}
 use Rattle.clk_machine.specs.Plan.{cpu_count}
 use Rattle.clk_record.specs.declared.attempt.Attempt.{Attempt}
 use Rattle.clk_record.specs.Attempts.{IsRightAttempt}
-use Rattle.clk_watch.specs.Draws.{DrawsEach}
 use Rattle.clk_record.specs.declared.stable.StableStamp.{StableStamp}
 use Rattle.clk_record.specs.declared.stable.Demotion.{Demotion}
-use Rattle.clk_demote.specs.Context.{Site, Known}
-use Rattle.clk_demote.specs.Lifts.{lifts_of}
-use Rattle.clk_demote.specs.Shows.{adjust_at, ShowsStableStamp, ShowsDemotion}
+use Rattle.clk_watch.specs.Draws.{DrawsEach}
 use Rattle.clk_lawful.specs.Checks.{Visit, Check, pause_of, checks_of}
 use Rattle.clk_lawful.specs.RightReadings.{check_cpu}
 use Rattle.clk_lawful.specs.Watchdog.{AreChecks, AreCalledFor}
 use Rattle.clk_lawful.specs.WritableWatch.{IsSized}
 use Rattle.clk_lawful.specs.declared.trace.WatchTrace.{WatchTrace}
+use Rattle.clk_demote.specs.Context.{Site, Known}
+use Rattle.clk_demote.specs.Lifts.{lifts_of}
+use Rattle.clk_demote.specs.Shows.{adjust_at, ShowsStableStamp, ShowsDemotion}
 
 -- attempts at a source on this CPU: each shows the counters at the tickets that were drawn for it
 pub record ShowsAttempts (z : Site) (cpu source : ℕ) (v : Known) (attempts : List Attempt) (w : Known) : Type 0 where

@@ -3,24 +3,22 @@ use Rattle.std.specs.Prelude.{◌≡◌, ℕ, ◌+◌, ◌-◌, ◌*◌, ◌^◌
 use Rattle.std.specs.List.{AllZip}
 use Rattle.clk_num.specs.Range.{IsNear, IsFrom0To}
 use Rattle.clk_ticket.specs.Time.{Time}
-use Rattle.clk_words.specs.Held.{place_of}
-use Rattle.clk_words.specs.Histories.{opens_at}
-use Rattle.clk_words.specs.Knowing.{MayDemote}
 use Rattle.clk_machine.specs.Plan.{Plan, cpu_count, threads_of}
 use Rattle.clk_machine.specs.Limits.{IsWithinLimits}
 use Rattle.clk_machine.specs.Records.{above_base}
 use Rattle.clk_machine.specs.Tickets.{watch_tickets}
-use Rattle.clk_local.specs.Context.{BeginsAtBase}
 use Rattle.clk_record.specs.Attempts.{retries_of}
-use Rattle.clk_record.specs.ChecksAsked.{checks_asked}
-use Rattle.clk_watch.specs.Watching.{started}
+use Rattle.clk_record.specs.Watching.{checks_asked, started, kept_of}
 use Rattle.clk_record.specs.Fold.{at_first, ratings_of, IsCurrent, AreVisits}
-use Rattle.clk_watch.specs.Watching.{kept_of}
-use Rattle.clk_demote.specs.Context.{Site, Known, IsUnlifted}
 use Rattle.clk_record.specs.Demotions.{offset_by}
+use Rattle.clk_words.specs.Held.{place_of}
+use Rattle.clk_words.specs.Histories.{opens_at}
+use Rattle.clk_words.specs.Knowing.{MayDemote}
 use Rattle.clk_lawful.specs.Checks.{Check, pause_of}
 use Rattle.clk_lawful.specs.Watchdog.{IsPass}
 use Rattle.clk_lawful.specs.declared.trace.WatchTrace.{WatchTrace}
+use Rattle.clk_local.specs.Context.{BeginsAtBase}
+use Rattle.clk_demote.specs.Context.{Site, Known, IsUnlifted}
 use Rattle.clk_worker.specs.declared.shared.Shared.{Shared}
 use Rattle.clk_watcher.specs.Checking.{WatchesCheck, Watches, KeepsLifts, HasWatched}
 use Rattle.clk_watcher.specs.VisitsKept.{KeepsVisits, KeepsDemotion, KeepsChecks}

@@ -5,23 +5,23 @@ use Rattle.clk_base.specs.Blocks.{Rises, RisesFrom}
 use Rattle.clk_base.specs.Walk.{EachFrom, flat_from}
 use Rattle.clk_num.specs.Wrapping.{raise}
 use Rattle.clk_ticket.specs.Time.{share_of}
-use Rattle.clk_record.specs.declared.step.Why.TheVariants.{Lift}
-use Rattle.clk_record.specs.declared.step.Step.{Step}
-use Rattle.clk_words.specs.Histories.{opens_at}
-use Rattle.clk_words.specs.Parts.{gtod_of, raw_of, part_of}
 use Rattle.clk_machine.specs.Plan.{cpu_count}
 use Rattle.clk_machine.specs.Limits.{IsWithinLimits}
 use Rattle.clk_machine.specs.declared.reading.Published.{Published}
+use Rattle.clk_record.specs.declared.step.Why.TheVariants.{Lift}
+use Rattle.clk_record.specs.declared.step.Step.{Step}
 use Rattle.clk_record.specs.declared.stable.StableStamp.{StableStamp}
 use Rattle.clk_record.specs.declared.stable.Demotion.{Demotion}
-use Rattle.clk_demote.specs.Context.{Site, Known}
 use Rattle.clk_record.specs.Demotions.{IsDemotion}
-use Rattle.clk_demote.specs.Shows.{adjust_at}
-use Rattle.clk_demote.specs.Stamping.{epoch_at}
+use Rattle.clk_words.specs.Histories.{opens_at}
+use Rattle.clk_words.specs.Parts.{gtod_of, raw_of, part_of}
 use Rattle.clk_lawful.specs.Checks.{pause_of, watch_blocks, checks_of}
 use Rattle.clk_lawful.specs.Demoted.{HasOffset, last_stamp}
 use Rattle.clk_lawful.specs.RightReadings.{check_cpu, named_in, NeverFall, IsRightVisit}
 use Rattle.clk_lawful.specs.declared.trace.WatchTrace.{WatchTrace}
+use Rattle.clk_demote.specs.Context.{Site, Known}
+use Rattle.clk_demote.specs.Shows.{adjust_at}
+use Rattle.clk_demote.specs.Stamping.{epoch_at}
 use Rattle.clk_watcher.specs.Checking.{HasWatched}
 
 -- the lift of a word in this check by a demotion that opens here, where words opened at o

@@ -2,15 +2,15 @@
 use Rattle.std.specs.Prelude.{◌≡◌, ℕ, ◌+◌, Bool, true, not, ◌&&◌, is_some, List, [], ◌∷◌, ◌++◌, map, take, length, flat_map, All, Option, Some, None, if◌then◌else◌}
 use Rattle.std.specs.List.{AllZip}
 use Rattle.clk_base.specs.Walk.{EachFrom}
-use Rattle.clk_words.specs.declared.opening.Start.{Start}
-use Rattle.clk_record.specs.declared.step.Step.{Step}
 use Rattle.clk_machine.specs.Plan.{Plan}
+use Rattle.clk_record.specs.declared.step.Step.{Step}
 use Rattle.clk_record.specs.Fold.{at_first, watch_after, ratings_of, IsCurrent, AreVisits}
 use Rattle.clk_record.specs.declared.stable.Demotion.{Demotion}
-use Rattle.clk_demote.specs.Lifts.{lifts_of}
+use Rattle.clk_words.specs.declared.opening.Start.{Start}
 use Rattle.clk_lawful.specs.Checks.{Visit, Check, listed}
 use Rattle.clk_lawful.specs.Watchdog.{IsPass}
 use Rattle.clk_lawful.specs.declared.trace.WatchTrace.{WatchTrace}
+use Rattle.clk_demote.specs.Lifts.{lifts_of}
 
 -- ---- visits
 

@@ -2,7 +2,7 @@
 ghost use Rattle.std.specs.Prelude.{◌≡◌, ◌+◌, ◌<◌, ◌≤◌, [], ◌∷◌, ◌++◌, ◌||◌, ◌^◌, true, false, length};
 ghost use Rattle.clk_machine.specs.Plan.{cpu_count};
 ghost use Rattle.clk_machine.specs.Time.{source_plan_at};
-ghost use Rattle.clk_record.specs.ChecksAsked.{checks_asked};
+ghost use Rattle.clk_record.specs.Watching.{checks_asked};
 ghost use Rattle.clk_lawful.specs.Checks.{pause_of};
 ghost use Rattle.clk_demote.specs.Context.{IsSeated};
 ghost use Rattle.clk_watcher.specs.Calling.{Stands, IsStable, HasRoomFor, Follows, Stamps, Demotes, MakesVisit, MakesPass, Pauses, EndsCheck};

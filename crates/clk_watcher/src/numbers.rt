@@ -2,7 +2,7 @@
 ghost use Rattle.std.specs.Prelude.{◌≡◌, ◌<◌, ◌≤◌, pos};
 ghost use Rattle.clk_machine.specs.Plan.{count_of};
 ghost use Rattle.clk_machine.specs.Limits.{IsWithinLimits};
-ghost use Rattle.clk_record.specs.ChecksAsked.{checks_asked};
+ghost use Rattle.clk_record.specs.Watching.{checks_asked};
 ghost use Rattle.clk_lawful.specs.Checks.{pause_of};
 
 use clk_machine::Machine;

@@ -1,6 +1,6 @@
 //! The watchdog of a run.
 ghost use Rattle.std.specs.Prelude.{◌≡◌, ◌+◌, ◌<◌, Some};
-ghost use Rattle.clk_record.specs.ChecksAsked.{checks_asked};
+ghost use Rattle.clk_record.specs.Watching.{checks_asked};
 ghost use Rattle.clk_watcher.specs.Making.{Begins, BelongsTo, WentOn, RanAll, MakesCheck};
 
 use crate::calls::make_at;

@@ -14,10 +14,11 @@ use Rattle.clk_num.specs.Clamp.{local_target, elapsed}
 use Rattle.clk_num.specs.Wrapping.{IsValue, wrap, above, raise, bits_of, IsBitsOf}
 use Rattle.clk_num.proofs.Wraps.{wrapped}
 use Rattle.clk_num.proofs.Heights.{wrap_fits, wrap_again, same_above, above_is, bits_are, bits_keep}
-use Rattle.clk_words.specs.declared.opening.Start.{Start}
 use Rattle.clk_record.specs.declared.step.Step.{Step}
 use Rattle.clk_record.specs.declared.step.Why.{Why}
 use Rattle.clk_record.specs.declared.step.Why.TheVariants.{Raise, Couple, Lift}
+use Rattle.clk_record.specs.Targets.{target}
+use Rattle.clk_words.specs.declared.opening.Start.{Start}
 use Rattle.clk_words.specs.declared.view.View.{View}
 use Rattle.clk_words.specs.declared.view.Load.{Load}
 use Rattle.clk_words.specs.declared.view.ModeView.{ModeView}
@@ -26,7 +27,6 @@ use Rattle.clk_words.specs.declared.view.Name.{Name}
 use Rattle.clk_words.specs.declared.view.Name.TheVariants.{Clock, Gtod, Raw, Offset}
 use Rattle.clk_words.specs.declared.kind.SeatKind.{SeatKind}
 use Rattle.clk_words.specs.Kinds.{cpu_of}
-use Rattle.clk_record.specs.Targets.{target}
 use Rattle.clk_words.specs.Histories.{opens_at, value_after, HadValue, NamesHeld, is_lift}
 use Rattle.clk_words.specs.Heights.{IsClockWord}
 use Rattle.clk_words.specs.Bounds.{IsGtod, IsOffset, IsLiftValue, IsClock, IsTick}

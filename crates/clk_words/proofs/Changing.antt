@@ -1,8 +1,8 @@
 -- What most kinds of step change of the rule, and what stays.
 use Rattle.std.proofs.Common.{◌≡◌, ℕ, ℤ, false, length, ◌∙◌}
 use Rattle.atomic_table.specs.Table.{State}
-use Rattle.clk_words.specs.declared.opening.Start.{Start}
 use Rattle.clk_record.specs.declared.step.Step.{Step}
+use Rattle.clk_words.specs.declared.opening.Start.{Start}
 use Rattle.clk_words.specs.declared.view.View.{View}
 use Rattle.clk_words.specs.Histories.{opens_at}
 use Rattle.clk_words.specs.WordsRule.{Chain, HasSeenAll, IsQuiet, HistoryPart, PairPart, ModePart, Kept}

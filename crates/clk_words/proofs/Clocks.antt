@@ -5,8 +5,8 @@ use mathlib.Core.Option.{some}
 use mathlib.Core.Logic.{dite}
 use native.Mathlib.Decide.{ℕ_discrete}
 use lib.ListN.{get_elem?}
-use Rattle.clk_words.specs.declared.opening.Start.{Start}
 use Rattle.clk_record.specs.declared.step.Step.{Step}
+use Rattle.clk_words.specs.declared.opening.Start.{Start}
 use Rattle.clk_words.specs.declared.view.View.{View}
 use Rattle.clk_words.specs.declared.view.Load.{Load}
 use Rattle.clk_words.specs.declared.view.PairView.{PairView}

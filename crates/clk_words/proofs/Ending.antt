@@ -12,8 +12,8 @@ use lib.ListN.{get_elem?}
 use Rattle.atomic_table.specs.Table.{Final, Seen}
 use Rattle.clk_num.specs.Wrapping.{IsValue}
 use Rattle.clk_num.proofs.Heights.{same_above}
-use Rattle.clk_words.specs.declared.opening.Start.{Start}
 use Rattle.clk_record.specs.declared.step.Step.{Step}
+use Rattle.clk_words.specs.declared.opening.Start.{Start}
 use Rattle.clk_words.specs.declared.view.View.{View}
 use Rattle.clk_words.specs.Histories.{opens_at, value_after, IsGlobalHistory, steps_by}
 use Rattle.clk_words.specs.Heights.{IsClockWord}

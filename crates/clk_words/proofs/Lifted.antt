@@ -1,10 +1,10 @@
 -- A step that is no lift stands behind a lift of its word.
 use Rattle.std.proofs.Common.{◌≡◌, ℕ, Bool, true, false, ◌&&◌, List, [], ◌∷◌, ◌++◌, nat_eq, refl, sym, ap, ◌∙◌, subst, ⊎_elim, append_assoc, eqb-true}
 use Rattle.clk_num.specs.Wrapping.{IsNotBelow}
-use Rattle.clk_words.specs.declared.opening.Start.{Start}
 use Rattle.clk_record.specs.declared.step.Step.{Step}
 use Rattle.clk_record.specs.declared.step.Why.{Why}
 use Rattle.clk_record.specs.declared.step.Why.TheVariants.{Raise, Couple, Lift}
+use Rattle.clk_words.specs.declared.opening.Start.{Start}
 use Rattle.clk_words.specs.Histories.{opens_at, value_after, is_lift, has_lift, AllLifted, IsInOrder, IsGlobalHistory}
 use Rattle.clk_words.specs.Laws.{LiftedBefore}
 use Rattle.clk_words.proofs.Owning.{or_cases}

@@ -4,8 +4,8 @@ use mathlib.Core.Option.{none}
 use Rattle.atomic_table.specs.Table.{Me, keeps, step, Allows}
 use Rattle.clk_record.specs.declared.mode.Mode.{Mode}
 use Rattle.clk_record.specs.declared.mode.Mode.TheVariants.{Stable, PerCpu}
-use Rattle.clk_words.specs.declared.opening.Start.{Start}
 use Rattle.clk_record.specs.declared.step.Step.{Step}
+use Rattle.clk_words.specs.declared.opening.Start.{Start}
 use Rattle.clk_words.specs.declared.view.View.{View}
 use Rattle.clk_words.specs.Histories.{opens_at}
 use Rattle.clk_words.specs.Bounds.{IsOffset}

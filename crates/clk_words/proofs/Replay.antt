@@ -8,12 +8,12 @@ use Rattle.clk_num.specs.Range.{IsNear}
 use Rattle.clk_num.specs.Wrapping.{above, raise, IsAbove, IsNotBelow}
 use Rattle.clk_num.proofs.Wraps.{wrapped}
 use Rattle.clk_num.proofs.Heights.{wrap_fits, above_is, above_same, raise_up}
+use Rattle.clk_record.specs.declared.step.Step.{Step}
+use Rattle.clk_record.specs.Targets.{target}
 use Rattle.clk_words.specs.declared.opening.Opening.{Opening}
 use Rattle.clk_words.specs.declared.opening.Start.{Start}
-use Rattle.clk_record.specs.declared.step.Step.{Step}
 use Rattle.clk_words.specs.Fronts.{Begins}
 use Rattle.clk_words.specs.Histories.{opens_at, value_after, HadValue, Follows, AllFollow, IsGlobalHistory, steps_by, steps_on, IsChain}
-use Rattle.clk_record.specs.Targets.{target}
 use Rattle.clk_words.specs.Heights.{height}
 use Rattle.clk_words.specs.Bounds.{opens_of, IsOffset, IsOpening, IsClock}
 use Rattle.clk_words.proofs.Fronts.{begins_none}

@@ -10,17 +10,17 @@ use prog.Atomic.{either}
 use Rattle.clk_num.specs.Range.{IsNear}
 use Rattle.clk_num.specs.Wrapping.{IsValue, above, raise}
 use Rattle.clk_num.proofs.Heights.{same_above, above_raise, raise_fits}
-use Rattle.clk_words.specs.declared.opening.Start.{Start}
 use Rattle.clk_record.specs.declared.step.Step.{Step}
 use Rattle.clk_record.specs.declared.step.Why.{Why}
 use Rattle.clk_record.specs.declared.step.Why.TheVariants.{Raise, Couple, Lift}
+use Rattle.clk_record.specs.Targets.{target}
+use Rattle.clk_words.specs.declared.opening.Start.{Start}
 use Rattle.clk_words.specs.declared.view.View.{View}
 use Rattle.clk_words.specs.declared.view.PairView.{PairView}
 use Rattle.clk_words.specs.declared.view.ModeView.{ModeView}
 use Rattle.clk_words.specs.declared.view.Load.{Load}
 use Rattle.clk_words.specs.declared.view.Name.TheVariants.{Clock}
 use Rattle.clk_words.specs.Fronts.{Begins}
-use Rattle.clk_record.specs.Targets.{target}
 use Rattle.clk_words.specs.Histories.{opens_at, value_after, HadValue, NamesHeld, Follows, is_lift, has_lift, AllLifted, IsInOrder}
 use Rattle.clk_words.specs.Heights.{height, IsClockWord}
 use Rattle.clk_words.specs.Bounds.{IsClock}

@@ -2,9 +2,9 @@
 use Rattle.std.specs.Prelude.{◌≡◌, ℕ, ◌<◌, ℤ, List, flat_map, All, Option, None, ◌⊎◌}
 use Rattle.std.specs.List.{sum_by}
 use Rattle.clk_num.specs.Wrapping.{IsAbove}
-use Rattle.clk_words.specs.declared.opening.Start.{Start}
 use Rattle.clk_record.specs.declared.step.Step.{Step}
 use Rattle.clk_record.specs.declared.step.Why.{Why}
+use Rattle.clk_words.specs.declared.opening.Start.{Start}
 use Rattle.clk_words.specs.declared.step.Put.{Put}
 use Rattle.clk_words.specs.declared.step.Put.TheVariants.{Done, Lost}
 use Rattle.clk_words.specs.declared.view.View.{View}

@@ -3,12 +3,12 @@ use Rattle.std.specs.Prelude.{◌≡◌, ℕ, ℤ, List, [], ◌∷◌, ◌++◌
 use Rattle.clk_base.specs.Chains.{IsChainBy}
 use Rattle.clk_num.specs.Wrapping.{raise}
 use Rattle.clk_record.specs.declared.mode.Mode.TheVariants.{Stable}
-use Rattle.clk_words.specs.declared.opening.Start.{Start}
 use Rattle.clk_record.specs.declared.step.Step.{Step}
 use Rattle.clk_record.specs.declared.step.Why.{Why}
 use Rattle.clk_record.specs.declared.step.Why.TheVariants.{Raise, Couple, Lift}
-use Rattle.clk_words.specs.Bounds.{opens_of, IsClock}
 use Rattle.clk_record.specs.Targets.{target}
+use Rattle.clk_words.specs.declared.opening.Start.{Start}
+use Rattle.clk_words.specs.Bounds.{opens_of, IsClock}
 
 -- what each clock word begins with
 abbrev pub opens_at : Start → ℤ

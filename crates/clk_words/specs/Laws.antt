@@ -2,8 +2,8 @@
 use Rattle.std.specs.Prelude.{◌≡◌, ℕ, ◌<◌, ℤ, ◌⊎◌, true, false, List, ◌∷◌, ◌++◌}
 use Rattle.clk_num.specs.Wrapping.{IsNotBelow}
 use Rattle.clk_record.specs.declared.mode.Mode.TheVariants.{Stable}
-use Rattle.clk_words.specs.declared.opening.Start.{Start}
 use Rattle.clk_record.specs.declared.step.Step.{Step}
+use Rattle.clk_words.specs.declared.opening.Start.{Start}
 use Rattle.clk_words.specs.declared.view.View.{View}
 use Rattle.clk_words.specs.Told.{FindsOffset}
 use Rattle.clk_words.specs.Calls.{KeepsOffset}

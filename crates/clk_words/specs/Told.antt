@@ -10,6 +10,7 @@ use Rattle.clk_record.specs.declared.mode.Mode.{Mode}
 use Rattle.clk_record.specs.declared.mode.Mode.TheVariants.{PerCpu}
 use Rattle.clk_record.specs.declared.step.Why.{Why}
 use Rattle.clk_record.specs.declared.step.Why.TheVariants.{Lift}
+use Rattle.clk_record.specs.Targets.{target}
 use Rattle.clk_words.specs.declared.view.View.{View}
 use Rattle.clk_words.specs.declared.view.ModeView.{ModeView}
 use Rattle.clk_words.specs.declared.view.Name.{Name}
@@ -17,7 +18,6 @@ use Rattle.clk_words.specs.declared.view.Name.TheVariants.{Clock, Gtod, Raw, Off
 use Rattle.clk_words.specs.Fronts.{Begins}
 use Rattle.clk_words.specs.Kinds.{cpu_of}
 use Rattle.clk_words.specs.Histories.{opens_at, value_after, is_lift}
-use Rattle.clk_record.specs.Targets.{target}
 use Rattle.clk_words.specs.Heights.{IsClockWord}
 use Rattle.clk_words.specs.Bounds.{IsGtod, IsRaw, IsOffset, IsClock}
 use Rattle.clk_words.specs.Parts.{gtod_of, raw_of, part_of, put_part, last_from, PartBegins}

@@ -2,11 +2,11 @@
 use Rattle.std.specs.Prelude.{ℕ, zero, suc, ◌+◌, pos, Bool, true, false, not, ◌&&◌, ◌||◌, List, [], ◌∷◌, ◌++◌, length, nat_eq, nat_lt, Some, None, if◌then◌else◌}
 use Rattle.clk_record.specs.declared.mode.Mode.{Mode}
 use Rattle.clk_record.specs.declared.mode.Mode.TheVariants.{Stable, PerCpu}
+use Rattle.clk_record.specs.declared.step.Step.{Step}
 use Rattle.clk_words.specs.declared.opening.Opening.{Opening}
 use Rattle.clk_words.specs.declared.opening.Start.{Start}
 use Rattle.clk_words.specs.declared.kind.SeatKind.{SeatKind}
 use Rattle.clk_words.specs.declared.kind.SeatKind.TheVariants.{Reader}
-use Rattle.clk_record.specs.declared.step.Step.{Step}
 use Rattle.clk_words.specs.declared.view.View.{View}
 use Rattle.clk_words.specs.declared.view.Part.{Part}
 use Rattle.clk_words.specs.declared.view.PairView.{PairView}

@@ -16,11 +16,11 @@ use Rattle.clk_machine.specs.declared.script.Word.TheVariants as word
 use Rattle.clk_words.specs.Held.{Held, place_of}
 use Rattle.clk_words.specs.Kinds.{cpu_of}
 use Rattle.clk_words.specs.Knowing.{IsReadingKind}
-use Rattle.clk_latch.specs.Epoch.{Place}
-use Rattle.clk_local.specs.Context.{Site, Known, site_of, Keeps}
 use Rattle.clk_lawful.specs.ScriptEvents.{Calls, IsRemoteReading, events_at, AreEventsOf}
 use Rattle.clk_lawful.specs.declared.event.Event.{Event}
 use Rattle.clk_lawful.specs.declared.event.EventKind.{EventKind}
+use Rattle.clk_latch.specs.Epoch.{Place}
+use Rattle.clk_local.specs.Context.{Site, Known, site_of, Keeps}
 use Rattle.clk_worker.specs.Running.{IsSound, OwnsClock, Runs}
 use Rattle.clk_worker.specs.Calling.{Context, site_at, has, known, HasSeatsOf, IsContext, seats_in, IsOver, Serves, IsOfOwner, MayMake, StandsOn, KeepsEvents, SpendsAtMost, updates_in}
 use Rattle.clk_worker.specs.Making.{Hand, script_of, FitTogether, SeatsServe, HasEnough, HasMade, IsGoing, Begins, BelongsTo, WentOn, MakesAt, MakesWord, MakesWords}

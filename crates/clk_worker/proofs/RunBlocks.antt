@@ -4,12 +4,12 @@ use Rattle.std.proofs.Common.{◌≡◌, List, [], ◌∷◌, ◌++◌, ap, ◌�
 use Rattle.std.specs.List.{flat_map}
 use Rattle.clk_base.specs.declared.block.Block.{Block}
 use Rattle.clk_ticket.specs.Time.{Time}
-use Rattle.clk_local.specs.Context.{Site, Known}
 use Rattle.clk_lawful.specs.Checks.{one}
 use Rattle.clk_lawful.specs.TicketOrder.{blocks_of, blocks_of_kind}
 use Rattle.clk_lawful.specs.declared.event.Event.{Event}
 use Rattle.clk_lawful.specs.declared.event.EventKind.{EventKind}
 use Rattle.clk_lawful.specs.declared.event.EventKind.TheVariants.{Stable, Local, Couple, Stamp, Nothing, Update, Pause}
+use Rattle.clk_local.specs.Context.{Site, Known}
 use Rattle.clk_worker.specs.Running.{Shows, Runs, at_call}
 
 -- one event

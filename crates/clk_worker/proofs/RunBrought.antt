@@ -8,13 +8,13 @@ use Rattle.std.proofs.lemmas.List.{map-append}
 use Rattle.std.proofs.lemmas.List.Elements.{All-nil, All-cons, All-append, All-contains, All-weaker, filter-append, Contains-append_left, Contains-append_right, Contains-push}
 use Rattle.clk_num.specs.Wrapping.{above, IsAbove}
 use Rattle.clk_num.proofs.Heights.{above_same, raise_is}
-use Rattle.clk_words.specs.declared.opening.Start.{Start}
 use Rattle.clk_record.specs.declared.step.Step.{Step}
 use Rattle.clk_record.specs.declared.step.Why.{Why}
 use Rattle.clk_record.specs.declared.step.Why.TheVariants.{Raise, Couple, Lift}
+use Rattle.clk_record.specs.Targets.{target}
+use Rattle.clk_words.specs.declared.opening.Start.{Start}
 use Rattle.clk_words.specs.Histories.{opens_at, steps_on, HadValue, NamesHeld, Follows, AllFollow, IsGlobalHistory}
 use Rattle.clk_words.specs.Laws.{WasPut}
-use Rattle.clk_record.specs.Targets.{target}
 use Rattle.clk_words.proofs.Holding.{held_put}
 use Rattle.clk_words.proofs.Replay.{had_here}
 use Rattle.clk_lawful.specs.LegalHistory.{is_coupling}

@@ -11,13 +11,13 @@ use Rattle.clk_base.specs.Walk.{EachFrom}
 use Rattle.clk_num.specs.Listed.{Listed}
 use Rattle.clk_num.specs.Wrapping.{IsValue, above, IsAbove}
 use Rattle.clk_num.proofs.Heights.{above_is, raise_up}
-use Rattle.clk_words.specs.declared.opening.Start.{Start}
 use Rattle.clk_record.specs.declared.step.Step.{Step}
 use Rattle.clk_record.specs.declared.step.Why.{Why}
 use Rattle.clk_record.specs.declared.step.Why.TheVariants.{Raise, Couple, Lift}
+use Rattle.clk_record.specs.Targets.{target}
+use Rattle.clk_words.specs.declared.opening.Start.{Start}
 use Rattle.clk_words.specs.Bounds.{IsClock}
 use Rattle.clk_words.specs.Histories.{opens_at, NamesHeld, Follows, AllFollow, IsGlobalHistory, steps_on, IsChain}
-use Rattle.clk_record.specs.Targets.{target}
 use Rattle.clk_words.proofs.Replay.{clock_near, AreClocks, opening_range, range_more, is_chain}
 use Rattle.clk_lawful.specs.LegalHistory.{NamesSource, IsLegalHistory}
 use Rattle.clk_lawful.specs.SortedHistory.{GoesUp, change_of}

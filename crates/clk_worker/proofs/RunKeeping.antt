@@ -1,22 +1,22 @@
 -- What no event of a run changes: the seat at the clock words shows the same number and kind, and belongs to the same
 -- words; and what only grows: its own steps, and the history that it has seen.
 use Rattle.std.proofs.Common.{◌≡◌, ℕ, ℤ, List, [], ◌∷◌, ◌++◌, ap, ◌∙◌, sym, subst, append_assoc}
+use Rattle.clk_machine.specs.declared.reading.RawReading.{RawReading}
+use Rattle.clk_record.specs.declared.step.Step.{Step}
 use Rattle.clk_words.specs.declared.opening.Start.{Start}
 use Rattle.clk_words.specs.declared.kind.SeatKind.{SeatKind}
-use Rattle.clk_record.specs.declared.step.Step.{Step}
 use Rattle.clk_words.specs.declared.view.View.{View}
 use Rattle.clk_words.specs.Fronts.{Begins}
 use Rattle.clk_words.specs.Kinds.{cpu_of}
 use Rattle.clk_words.specs.Told.{Raises}
 use Rattle.clk_words.proofs.Fronts.{begins_self, begins_through}
-use Rattle.clk_machine.specs.declared.reading.RawReading.{RawReading}
+use Rattle.clk_lawful.specs.declared.event.Event.{Event}
+use Rattle.clk_lawful.specs.declared.event.EventKind.{EventKind}
+use Rattle.clk_lawful.specs.declared.event.EventKind.TheVariants.{Stable, Local, Couple, Stamp, Nothing, Update, Pause}
 use Rattle.clk_local.specs.Context.{Site, Known}
 use Rattle.clk_local.specs.Raising.{FindsPair}
 use Rattle.clk_local.specs.Shows.{ShowsRaised}
 use Rattle.clk_remote.specs.Shows.{LoadsBoth}
-use Rattle.clk_lawful.specs.declared.event.Event.{Event}
-use Rattle.clk_lawful.specs.declared.event.EventKind.{EventKind}
-use Rattle.clk_lawful.specs.declared.event.EventKind.TheVariants.{Stable, Local, Couple, Stamp, Nothing, Update, Pause}
 use Rattle.clk_worker.specs.Running.{Shows, HasLooked, Runs, at_call}
 
 -- ---- what is fixed

@@ -4,12 +4,12 @@ use Rattle.std.proofs.Common.{◌≡◌, ℕ, ◌+◌, true, List, [], ◌∷◌
 use Rattle.std.specs.List.{All}
 use Rattle.std.proofs.lemmas.List.Elements.{All-nil, All-cons, All-head, All-tail}
 use Rattle.clk_num.specs.Wrapping.{raise}
-use Rattle.clk_words.specs.declared.opening.Start.{Start}
 use Rattle.clk_record.specs.declared.step.Step.{Step}
 use Rattle.clk_record.specs.declared.step.Why.{Why}
 use Rattle.clk_record.specs.declared.step.Why.TheVariants.{Raise, Couple, Lift}
-use Rattle.clk_words.specs.Histories.{is_lift, NamesHeld, IsGlobalHistory}
 use Rattle.clk_record.specs.Targets.{target}
+use Rattle.clk_words.specs.declared.opening.Start.{Start}
+use Rattle.clk_words.specs.Histories.{is_lift, NamesHeld, IsGlobalHistory}
 use Rattle.clk_words.proofs.Holding.{each_follows}
 use Rattle.clk_lawful.specs.LegalHistory.{ReachesTarget}
 use Rattle.clk_lawful.specs.WordHistory.{placed_lift}

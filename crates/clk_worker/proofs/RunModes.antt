@@ -7,17 +7,17 @@ use Rattle.clk_base.specs.Walk.{Along}
 use Rattle.clk_num.specs.Wrapping.{wrap, IsNotBelow}
 use Rattle.clk_record.specs.declared.mode.Mode.{Mode}
 use Rattle.clk_record.specs.declared.mode.Mode.TheVariants.{Stable as StableMode, PerCpu as PerCpuMode}
-use Rattle.clk_words.specs.declared.opening.Start.{Start}
 use Rattle.clk_record.specs.declared.step.Step.{Step}
-use Rattle.clk_words.specs.declared.view.View.{View}
 use Rattle.clk_record.specs.LowerWord.{lower_value}
+use Rattle.clk_words.specs.declared.opening.Start.{Start}
+use Rattle.clk_words.specs.declared.view.View.{View}
 use Rattle.clk_words.specs.Views.{is_percpu, first_view}
-use Rattle.clk_local.specs.Context.{Site, Known}
 use Rattle.clk_lawful.specs.Couples.{CouplesLower}
 use Rattle.clk_lawful.specs.Modes.{Modes, IsOfMode, turned_after}
 use Rattle.clk_lawful.specs.declared.event.Event.{Event}
 use Rattle.clk_lawful.specs.declared.event.EventKind.{EventKind}
 use Rattle.clk_lawful.specs.declared.event.EventKind.TheVariants.{Stable, Local, Couple, Stamp, Nothing, Update, Pause}
+use Rattle.clk_local.specs.Context.{Site, Known}
 use Rattle.clk_worker.specs.Running.{Shows, Runs, at_call}
 use Rattle.clk_worker.proofs.Showing.{raised_found}
 

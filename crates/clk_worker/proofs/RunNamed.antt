@@ -3,23 +3,23 @@
 use Rattle.std.proofs.Common.{◌≡◌, ℕ, ◌+◌, ◌<◌, ℤ, Bool, true, false, cond, List, [], ◌∷◌, ◌++◌, ap, ◌∙◌, sym, subst}
 use Rattle.std.specs.List.{All}
 use Rattle.std.proofs.lemmas.List.Elements.{All-nil, All-cons, All-head, All-tail}
-use Rattle.clk_words.specs.declared.opening.Start.{Start}
 use Rattle.clk_record.specs.declared.step.Step.{Step}
 use Rattle.clk_record.specs.declared.step.Why.{Why}
 use Rattle.clk_record.specs.declared.step.Why.TheVariants.{Raise, Lift}
 use Rattle.clk_record.specs.declared.step.Why.TheVariants as why
+use Rattle.clk_record.specs.LowerWord.{is_lower, lower_word}
+use Rattle.clk_words.specs.declared.opening.Start.{Start}
 use Rattle.clk_words.specs.Fronts.{Begins}
 use Rattle.clk_words.specs.Histories.{NamesHeld}
-use Rattle.clk_record.specs.LowerWord.{is_lower, lower_word}
 use Rattle.clk_words.proofs.Fronts.{begins_through}
 use Rattle.clk_words.proofs.Replay.{had_later}
-use Rattle.clk_local.specs.Context.{Site, Known}
 use Rattle.clk_lawful.specs.Couples.{named_word, named_value}
 use Rattle.clk_lawful.specs.Filling.{NamesWordsBelow}
 use Rattle.clk_lawful.specs.WordHistory.{Placed, steps_of_kind, steps_from}
 use Rattle.clk_lawful.specs.declared.event.Event.{Event}
 use Rattle.clk_lawful.specs.declared.event.EventKind.{EventKind}
 use Rattle.clk_lawful.specs.declared.event.EventKind.TheVariants.{Stable, Local, Couple, Stamp, Nothing, Update, Pause}
+use Rattle.clk_local.specs.Context.{Site, Known}
 use Rattle.clk_worker.specs.Running.{Shows, ShowsCouple, Runs, at_call}
 use Rattle.clk_worker.proofs.RunKeeping.{IsHome, home_looked, home_next, step_seen, runs_grows}
 use Rattle.clk_worker.proofs.RunSteps.{couple_why}

@@ -2,12 +2,13 @@
 -- stamp that is the pair of stamp 0.
 use Rattle.std.proofs.Common.{◌≡◌, ◌≢◌, ℕ, zero, suc, ◌<◌, ℤ, true, List, [], ◌∷◌, ◌++◌, Some, ap, ◌∙◌, sym, subst, refl, arith, append-nil, eq-eqb}
 use Rattle.clk_base.specs.Walk.{Along}
-use Rattle.clk_words.specs.declared.opening.Opening.{Opening}
-use Rattle.clk_words.specs.declared.opening.Start.{Start}
-use Rattle.clk_words.specs.declared.kind.SeatKind.TheVariants.{Owner}
+use Rattle.clk_machine.specs.declared.reading.RawReading.{RawReading}
 use Rattle.clk_record.specs.declared.step.Step.{Step}
 use Rattle.clk_record.specs.declared.step.Why.{Why}
 use Rattle.clk_record.specs.declared.step.Why.TheVariants.{Raise, Couple, Lift}
+use Rattle.clk_words.specs.declared.opening.Opening.{Opening}
+use Rattle.clk_words.specs.declared.opening.Start.{Start}
+use Rattle.clk_words.specs.declared.kind.SeatKind.TheVariants.{Owner}
 use Rattle.clk_words.specs.declared.view.View.{View}
 use Rattle.clk_words.specs.declared.view.PairView.{PairView}
 use Rattle.clk_words.specs.declared.view.Name.{Name}
@@ -17,14 +18,13 @@ use Rattle.clk_words.specs.Rights.{has_number, owned_by}
 use Rattle.clk_words.specs.Told.{Finds, FindsRaw, FindsGtod, stamped}
 use Rattle.clk_words.specs.Views.{pairs_known}
 use Rattle.clk_words.proofs.Registers.{put_here, put_else, last_more}
-use Rattle.clk_machine.specs.declared.reading.RawReading.{RawReading}
-use Rattle.clk_local.specs.Context.{Site, Known}
-use Rattle.clk_local.specs.Shows.{ShowsRaised}
 use Rattle.clk_lawful.specs.Stamps.{Pair, pair_after, NamesPair}
 use Rattle.clk_lawful.specs.declared.event.Event.{Event}
 use Rattle.clk_lawful.specs.declared.event.EventKind.{EventKind}
 use Rattle.clk_lawful.specs.declared.event.EventKind.TheVariants.{Stable, Local, Stamp, Nothing, Update, Pause}
 use Rattle.clk_lawful.specs.declared.event.EventKind.TheVariants as event
+use Rattle.clk_local.specs.Context.{Site, Known}
+use Rattle.clk_local.specs.Shows.{ShowsRaised}
 use Rattle.clk_worker.specs.Running.{Shows, ShowsLocal, Runs, at_call}
 use Rattle.clk_worker.proofs.RunKeeping.{IsHome, home_looked, home_next}
 use Rattle.clk_worker.proofs.RunParts.{MayHave, PartsBegin, parts_through, finds_begin, finds_part, finds_other, Lasts, runs_last, stamp_lasts, offset_lasts}

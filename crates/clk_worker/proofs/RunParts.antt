@@ -3,6 +3,7 @@
 use Rattle.std.proofs.Common.{◌≡◌, ◌≢◌, ℕ, ℤ, ◌⊎◌, inl, inr, List, [], ◌∷◌, ◌++◌, Option, Some, None, refl, ap, ◌∙◌, sym, subst}
 use mathlib.Core.Logic.{dite}
 use native.Mathlib.Decide.{ℕ_discrete}
+use Rattle.clk_machine.specs.declared.reading.RawReading.{RawReading}
 use Rattle.clk_record.specs.declared.step.Step.{Step}
 use Rattle.clk_words.specs.declared.view.View.{View}
 use Rattle.clk_words.specs.declared.view.PairView.{PairView}
@@ -12,12 +13,11 @@ use Rattle.clk_words.specs.Parts.{gtod_of, raw_of, part_of, put_part, PartBegins
 use Rattle.clk_words.specs.Told.{Finds, stamped}
 use Rattle.clk_words.proofs.Fronts.{begins_self}
 use Rattle.clk_words.proofs.Registers.{put_here, put_else, part_through}
-use Rattle.clk_machine.specs.declared.reading.RawReading.{RawReading}
-use Rattle.clk_local.specs.Context.{Site, Known}
-use Rattle.clk_local.specs.Shows.{ShowsRaised}
 use Rattle.clk_lawful.specs.declared.event.Event.{Event}
 use Rattle.clk_lawful.specs.declared.event.EventKind.{EventKind}
 use Rattle.clk_lawful.specs.declared.event.EventKind.TheVariants.{Stable, Local, Couple, Stamp, Nothing, Update, Pause}
+use Rattle.clk_local.specs.Context.{Site, Known}
+use Rattle.clk_local.specs.Shows.{ShowsRaised}
 use Rattle.clk_worker.specs.Running.{Shows, ShowsLocal, HasLooked, Runs, at_call}
 
 -- ---- what may be known

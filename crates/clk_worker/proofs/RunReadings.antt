@@ -8,17 +8,17 @@ use Rattle.clk_base.specs.Walk.{Along}
 use Rattle.clk_machine.specs.Plan.{Plan}
 use Rattle.clk_machine.specs.Records.{record_zero, IsNextRecord}
 use Rattle.clk_machine.specs.declared.reading.Published.{Published}
+use Rattle.clk_lawful.specs.Updates.{update_of_kind, updates_of, OwnsRecords, record_after, NamesLater, named_after}
+use Rattle.clk_lawful.specs.RightReadings.{IsRightKind}
+use Rattle.clk_lawful.specs.declared.event.Event.{Event}
+use Rattle.clk_lawful.specs.declared.event.EventKind.{EventKind}
+use Rattle.clk_lawful.specs.declared.event.EventKind.TheVariants.{Stable, Local, Couple, Stamp, Nothing, Update, Pause}
 use Rattle.clk_latch.specs.Epoch.{Epoch}
 use Rattle.clk_latch.specs.Calls.{last_of}
 use Rattle.clk_latch.proofs.Prefixes.{prefix_self, prefix_trans, prefix_length}
 use Rattle.clk_latch.proofs.Updating.{last_is}
 use Rattle.clk_latch.proofs.Staying.{stay_right}
 use Rattle.clk_local.specs.Context.{Site, Known}
-use Rattle.clk_lawful.specs.Updates.{update_of_kind, updates_of, OwnsRecords, record_after, NamesLater, named_after}
-use Rattle.clk_lawful.specs.RightReadings.{IsRightKind}
-use Rattle.clk_lawful.specs.declared.event.Event.{Event}
-use Rattle.clk_lawful.specs.declared.event.EventKind.{EventKind}
-use Rattle.clk_lawful.specs.declared.event.EventKind.TheVariants.{Stable, Local, Couple, Stamp, Nothing, Update, Pause}
 use Rattle.clk_worker.specs.Running.{Shows, HasLooked, Runs, at_call}
 
 -- what the clock's seat has of the latch

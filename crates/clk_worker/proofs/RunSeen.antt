@@ -9,8 +9,9 @@ use Rattle.std.specs.Prelude.{int_lt, fold}
 use native.Mathlib.Decide.{ℕ_discrete}
 use Rattle.clk_num.specs.Wrapping.{above, IsNotBelow}
 use Rattle.clk_num.proofs.Heights.{above_is, above_same, not_below_after}
-use Rattle.clk_words.specs.declared.opening.Start.{Start}
+use Rattle.clk_machine.specs.declared.reading.RawReading.{RawReading}
 use Rattle.clk_record.specs.declared.step.Step.{Step}
+use Rattle.clk_words.specs.declared.opening.Start.{Start}
 use Rattle.clk_words.specs.declared.view.View.{View}
 use Rattle.clk_words.specs.Bounds.{IsClock}
 use Rattle.clk_words.specs.Fronts.{Begins}
@@ -19,14 +20,13 @@ use Rattle.clk_words.specs.Heights.{height}
 use Rattle.clk_words.specs.Told.{Raises}
 use Rattle.clk_words.proofs.Fronts.{begins_self, begins_through}
 use Rattle.clk_words.proofs.Replay.{value_here, follow_back, legal_front, legal_range, rises, had_here, had_later, had_below}
-use Rattle.clk_machine.specs.declared.reading.RawReading.{RawReading}
-use Rattle.clk_local.specs.Context.{Site, Known}
-use Rattle.clk_local.specs.Raising.{shown_on}
-use Rattle.clk_local.specs.Shows.{ShowsRaised}
 use Rattle.clk_lawful.specs.SeenBefore.{Seen, seen_at, higher, seen_of, shown_by_kind, IsFoundAbove, IsAboveSeen, NeverFalls}
 use Rattle.clk_lawful.specs.declared.event.Event.{Event}
 use Rattle.clk_lawful.specs.declared.event.EventKind.{EventKind}
 use Rattle.clk_lawful.specs.declared.event.EventKind.TheVariants.{Stable, Local, Couple, Stamp, Nothing, Update, Pause}
+use Rattle.clk_local.specs.Context.{Site, Known}
+use Rattle.clk_local.specs.Raising.{shown_on}
+use Rattle.clk_local.specs.Shows.{ShowsRaised}
 use Rattle.clk_worker.specs.Running.{Shows, ShowsLocal, ShowsCouple, Runs, at_call}
 use Rattle.clk_worker.proofs.RunKeeping.{Fixed, IsHome, home_stays, home_looked, home_next, offset_fixed, shows_fixed, shows_grows, step_seen, runs_grows}
 use Rattle.clk_worker.proofs.RunLifted.{StoodAt, stood_had, stood_passed, stood_before}

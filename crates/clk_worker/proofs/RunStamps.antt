@@ -7,6 +7,7 @@ use Rattle.std.specs.Ordering.{int_eq}
 use Rattle.std.proofs.lemmas.Bool.Decides.{Decides-int_eq}
 use Rattle.std.proofs.lemmas.List.{map-append}
 use Rattle.clk_base.specs.Walk.{Along}
+use Rattle.clk_machine.specs.declared.reading.RawReading.{RawReading}
 use Rattle.clk_words.specs.declared.opening.Start.{Start}
 use Rattle.clk_words.specs.declared.view.View.{View}
 use Rattle.clk_words.specs.declared.view.PairView.{PairView}
@@ -17,12 +18,11 @@ use Rattle.clk_words.specs.Rights.{has_number}
 use Rattle.clk_words.specs.Told.{Finds, FindsRaw, FindsGtod, stamped}
 use Rattle.clk_words.proofs.Fronts.{begins_length}
 use Rattle.clk_words.proofs.Registers.{put_here, put_else}
-use Rattle.clk_machine.specs.declared.reading.RawReading.{RawReading}
-use Rattle.clk_local.specs.Context.{Site, Known}
 use Rattle.clk_lawful.specs.Stamps.{Pair, stamp_of_kind, Numbers, least_from, numbers_of, NamesStamps, numbers_after}
 use Rattle.clk_lawful.specs.declared.event.Event.{Event}
 use Rattle.clk_lawful.specs.declared.event.EventKind.{EventKind}
 use Rattle.clk_lawful.specs.declared.event.EventKind.TheVariants.{Stable, Local, Couple, Stamp, Nothing, Update, Pause}
+use Rattle.clk_local.specs.Context.{Site, Known}
 use Rattle.clk_worker.specs.Running.{Shows, ShowsLocal, Runs, at_call}
 use Rattle.clk_worker.proofs.RunKeeping.{IsHome, home_looked, home_next}
 use Rattle.clk_worker.proofs.RunPairs.{local_names, local_raw, local_gtod}

@@ -4,23 +4,23 @@ use Rattle.std.proofs.lemmas.List.{map-append}
 use Rattle.std.specs.List.{All}
 use Rattle.std.proofs.lemmas.List.Elements.{All-nil, All-cons}
 use Rattle.clk_num.specs.Wrapping.{raise}
-use Rattle.clk_words.specs.declared.opening.Start.{Start}
+use Rattle.clk_machine.specs.declared.reading.RawReading.{RawReading}
 use Rattle.clk_record.specs.declared.step.Step.{Step}
 use Rattle.clk_record.specs.declared.step.Why.{Why}
 use Rattle.clk_record.specs.declared.step.Why.TheVariants.{Raise}
 use Rattle.clk_record.specs.declared.step.Why.TheVariants as why
-use Rattle.clk_words.specs.declared.view.View.{View}
 use Rattle.clk_record.specs.LowerWord.{is_lower}
 use Rattle.clk_record.specs.Targets.{target}
-use Rattle.clk_machine.specs.declared.reading.RawReading.{RawReading}
-use Rattle.clk_local.specs.Context.{Site, Known}
-use Rattle.clk_remote.specs.Coupling.{coupling, higher_value}
+use Rattle.clk_words.specs.declared.opening.Start.{Start}
+use Rattle.clk_words.specs.declared.view.View.{View}
 use Rattle.clk_lawful.specs.Couples.{named_word, named_value}
 use Rattle.clk_lawful.specs.LegalHistory.{ReachesTarget}
 use Rattle.clk_lawful.specs.WordHistory.{Placed, steps_of_kind, steps_from}
 use Rattle.clk_lawful.specs.declared.event.Event.{Event}
 use Rattle.clk_lawful.specs.declared.event.EventKind.{EventKind}
 use Rattle.clk_lawful.specs.declared.event.EventKind.TheVariants.{Stable, Local, Couple, Stamp, Nothing, Update, Pause}
+use Rattle.clk_local.specs.Context.{Site, Known}
+use Rattle.clk_remote.specs.Coupling.{coupling, higher_value}
 use Rattle.clk_worker.specs.Running.{Shows, ShowsLocal, ShowsCouple, Runs, at_call}
 use Rattle.clk_worker.proofs.RunKeeping.{IsHome, home_looked, home_next}
 

@@ -3,21 +3,19 @@
 use Rattle.std.proofs.Common.{◌≡◌, ℕ, ◌+◌, ◌<◌, ℤ, true, false, cond, List, [], ◌∷◌, ◌++◌, map, length, Some, None, refl, ap, ◌∙◌, arith}
 use Rattle.std.specs.List.{All, flat_map}
 use Rattle.clk_base.specs.Walk.{Along}
+use Rattle.clk_machine.specs.Records.{record_zero}
+use Rattle.clk_machine.specs.declared.reading.Published.{Published}
 use Rattle.clk_record.specs.declared.mode.Mode.{Mode}
 use Rattle.clk_record.specs.declared.mode.Mode.TheVariants.{Stable, PerCpu}
+use Rattle.clk_record.specs.declared.step.Step.{Step}
 use Rattle.clk_words.specs.declared.opening.Start.{Start}
 use Rattle.clk_words.specs.declared.kind.SeatKind.TheVariants.{Owner}
-use Rattle.clk_record.specs.declared.step.Step.{Step}
 use Rattle.clk_words.specs.declared.view.Part.{Part}
 use Rattle.clk_words.specs.Fronts.{Begins}
 use Rattle.clk_words.specs.Histories.{opens_at, IsGlobalHistory}
 use Rattle.clk_words.specs.Parts.{gtod_of, raw_of, part_of}
 use Rattle.clk_words.specs.Rights.{has_number, owned_by}
 use Rattle.clk_words.specs.Views.{is_percpu, pairs_known, first_view}
-use Rattle.clk_machine.specs.Records.{record_zero}
-use Rattle.clk_machine.specs.declared.reading.Published.{Published}
-use Rattle.clk_latch.specs.Calls.{last_of}
-use Rattle.clk_local.specs.Context.{Site, Known}
 use Rattle.clk_lawful.specs.Couples.{CouplesLower}
 use Rattle.clk_lawful.specs.Filling.{NamesWordsBelow}
 use Rattle.clk_lawful.specs.LegalHistory.{ReachesTarget}
@@ -29,6 +27,8 @@ use Rattle.clk_lawful.specs.TicketOrder.{blocks_of}
 use Rattle.clk_lawful.specs.Updates.{updates_of, OwnsRecords, record_after, NamesLater, named_after}
 use Rattle.clk_lawful.specs.WordHistory.{steps_from}
 use Rattle.clk_lawful.specs.declared.event.Event.{Event}
+use Rattle.clk_latch.specs.Calls.{last_of}
+use Rattle.clk_local.specs.Context.{Site, Known}
 use Rattle.clk_worker.specs.Running.{Runs}
 use Rattle.clk_worker.proofs.RunBlocks.{runs_blocks}
 use Rattle.clk_worker.proofs.RunKeeping.{IsHome, fixed, runs_fixed}

@@ -3,28 +3,28 @@
 -- event is per-CPU.
 use Rattle.std.proofs.Common.{◌≡◌, ℕ, ◌+◌, ◌<◌, ◌==◌, ℤ, Bool, true, false, ◌||◌, ◌&&◌, inl, inr, List, [], ◌∷◌, ◌++◌, Contains, MatchBool, nat_eq, refl, ap, ◌∙◌, sym, subst, arith, append_assoc}
 use Rattle.std.proofs.lemmas.List.Elements.{Contains-append_left, Contains-append_right}
+use Rattle.clk_machine.specs.Plan.{count_of}
+use Rattle.clk_machine.specs.declared.script.Word.{Word}
+use Rattle.clk_machine.specs.declared.script.Word.TheVariants as word
 use Rattle.clk_record.specs.declared.mode.Mode.{Mode}
 use Rattle.clk_record.specs.declared.mode.Mode.TheVariants.{Stable as StableMode, PerCpu as PerCpuMode}
-use Rattle.clk_words.specs.declared.opening.Start.{Start}
 use Rattle.clk_record.specs.declared.step.Step.{Step}
 use Rattle.clk_record.specs.declared.step.Why.{Why}
 use Rattle.clk_record.specs.declared.step.Why.TheVariants.{Raise, Lift}
 use Rattle.clk_record.specs.declared.step.Why.TheVariants as why
+use Rattle.clk_words.specs.declared.opening.Start.{Start}
 use Rattle.clk_words.specs.Fronts.{Begins}
 use Rattle.clk_words.specs.Histories.{is_lift, has_lift, AllLifted, IsInOrder, IsGlobalHistory}
 use Rattle.clk_words.specs.Views.{first_view}
 use Rattle.clk_words.proofs.Holding.{each_follows}
 use Rattle.clk_words.proofs.Modes.{and_left}
 use Rattle.clk_words.proofs.Owning.{or_cases}
-use Rattle.clk_machine.specs.Plan.{count_of}
-use Rattle.clk_machine.specs.declared.script.Word.{Word}
-use Rattle.clk_machine.specs.declared.script.Word.TheVariants as word
-use Rattle.clk_local.specs.Context.{Site, Known}
 use Rattle.clk_lawful.specs.Modes.{shows_percpu, reads_percpu, Modes, IsOfMode, turned_after}
 use Rattle.clk_lawful.specs.ScriptEvents.{IsOwnReading, IsRemoteReading, IsTick, IsIdle, IsUpdate, IsPause, Calls, events_at, AreEventsOf}
 use Rattle.clk_lawful.specs.declared.event.Event.{Event}
 use Rattle.clk_lawful.specs.declared.event.EventKind.{EventKind}
 use Rattle.clk_lawful.specs.declared.event.EventKind.TheVariants.{Stable, Local, Couple, Stamp, Nothing, Update, Pause}
+use Rattle.clk_local.specs.Context.{Site, Known}
 use Rattle.clk_worker.specs.Running.{HasPassed, Shows, Runs, at_call}
 use Rattle.clk_worker.proofs.RunKeeping.{runs_grows}
 use Rattle.clk_worker.proofs.RunModes.{AreOfMode, runs_mode}

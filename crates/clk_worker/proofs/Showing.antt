@@ -3,15 +3,20 @@ use Rattle.std.proofs.Common.{◌≡◌, ◌≢◌, ℕ, ◌+◌, ◌<◌, ◌�
 use Rattle.std.proofs.lemmas.List.{map-append}
 use Rattle.clk_ticket.specs.Time.{Time}
 use Rattle.clk_machine.specs.declared.reading.RawReading.{RawReading}
-use Rattle.clk_latch.specs.Epoch.{Epoch}
 use Rattle.clk_record.specs.declared.mode.Mode.{Mode}
 use Rattle.clk_record.specs.declared.mode.Mode.TheVariants.{Stable as StableMode, PerCpu as PerCpuMode}
-use Rattle.clk_words.specs.declared.opening.Start.{Start}
 use Rattle.clk_record.specs.declared.step.Step.{Step}
 use Rattle.clk_record.specs.declared.step.Why.{Why}
+use Rattle.clk_words.specs.declared.opening.Start.{Start}
 use Rattle.clk_words.specs.declared.view.View.{View}
 use Rattle.clk_words.specs.Histories.{is_lift}
 use Rattle.clk_words.specs.Views.{is_percpu}
+use Rattle.clk_lawful.specs.ScriptEvents.{IsOwnReading, IsRemoteReading, IsTick, IsIdle, events_at}
+use Rattle.clk_lawful.specs.declared.event.Event.{Event}
+use Rattle.clk_lawful.specs.declared.event.EventKind.{EventKind}
+use Rattle.clk_lawful.specs.declared.event.EventKind.TheVariants.{Local, Couple, Stamp}
+use Rattle.clk_lawful.specs.declared.event.EventKind.TheVariants as kind
+use Rattle.clk_latch.specs.Epoch.{Epoch}
 use Rattle.clk_local.specs.Context.{Site, Known, looked_as}
 use Rattle.clk_local.specs.Shows.{ShowsLook, ShowsStable, ShowsRaised, mode_read, mode_ticked, OnReading, OnTick, ShowsReading, ShowsTick, ShowsIdle}
 use Rattle.clk_local.specs.declared.events.Reading.{Reading}
@@ -23,11 +28,6 @@ use Rattle.clk_remote.specs.Shows.{mode_coupled, OnRemote, ShowsRemote}
 use Rattle.clk_remote.specs.declared.event.RemoteEvent.{RemoteEvent}
 use Rattle.clk_remote.specs.declared.event.RemoteEvent.TheVariants.{Coupled}
 use Rattle.clk_remote.specs.declared.event.RemoteEvent.TheVariants as remote
-use Rattle.clk_lawful.specs.ScriptEvents.{IsOwnReading, IsRemoteReading, IsTick, IsIdle, events_at}
-use Rattle.clk_lawful.specs.declared.event.Event.{Event}
-use Rattle.clk_lawful.specs.declared.event.EventKind.{EventKind}
-use Rattle.clk_lawful.specs.declared.event.EventKind.TheVariants.{Local, Couple, Stamp}
-use Rattle.clk_lawful.specs.declared.event.EventKind.TheVariants as kind
 use Rattle.clk_worker.specs.Running.{at_call, IsSound, kinds_of_why, kinds_of_step, kinds_of_reading, kinds_of_tick, HasPassed, HasLooked, Runs}
 use Rattle.clk_worker.specs.Calling.{kinds_of_remote, SpendsAtMost}
 use Rattle.clk_worker.proofs.Sounding.{OwnsLatch, same_sound, reading_sound, stamp_sound, same_latch, reading_latch, stamp_latch}

@@ -5,16 +5,16 @@ use Rattle.clk_ticket.specs.Time.{share_of}
 use Rattle.clk_machine.specs.Limits.{IsOfReader, is_update}
 use Rattle.clk_machine.specs.Tickets.{tickets_of}
 use Rattle.clk_machine.specs.declared.script.Word.{Word}
-use Rattle.clk_latch.specs.Epoch.{Place}
-use Rattle.clk_local.specs.Context.{Site, Known, site_of, known_of, IsUsable}
-use Rattle.clk_local.specs.declared.context.Ctx.{Ctx}
-use Rattle.clk_remote.specs.declared.event.RemoteEvent.{RemoteEvent}
-use Rattle.clk_remote.specs.declared.event.RemoteEvent.TheVariants.{Stable, Coupled}
 use Rattle.clk_lawful.specs.ScriptEvents.{Calls, events_at}
 use Rattle.clk_lawful.specs.declared.event.Event.{Event}
 use Rattle.clk_lawful.specs.declared.event.EventKind.{EventKind}
 use Rattle.clk_lawful.specs.declared.event.EventKind.TheVariants.{Couple}
 use Rattle.clk_lawful.specs.declared.event.EventKind.TheVariants as kind
+use Rattle.clk_latch.specs.Epoch.{Place}
+use Rattle.clk_local.specs.Context.{Site, Known, site_of, known_of, IsUsable}
+use Rattle.clk_local.specs.declared.context.Ctx.{Ctx}
+use Rattle.clk_remote.specs.declared.event.RemoteEvent.{RemoteEvent}
+use Rattle.clk_remote.specs.declared.event.RemoteEvent.TheVariants.{Stable, Coupled}
 use Rattle.clk_worker.specs.Running.{kinds_of_step, IsSound, OwnsClock, Runs}
 use Rattle.clk_worker.specs.declared.shared.Shared.{Shared}
 use Rattle.clk_worker.specs.declared.own.Post.{Post}

@@ -4,15 +4,15 @@ use Rattle.std.specs.List.{sum_by}
 use Rattle.clk_num.specs.Listed.{Listed}
 use Rattle.clk_num.specs.Range.{IsNear, IsFrom0To}
 use Rattle.clk_ticket.specs.Time.{share_of}
-use Rattle.clk_words.specs.Held.{place_of}
-use Rattle.clk_words.specs.Histories.{opens_at}
-use Rattle.clk_words.specs.Kinds.{cpu_of}
-use Rattle.clk_words.specs.Knowing.{IsReadingKind}
 use Rattle.clk_machine.specs.Plan.{cpu_count, threads_of, thread_at}
 use Rattle.clk_machine.specs.Limits.{IsWithinLimits}
 use Rattle.clk_machine.specs.Records.{above_base}
 use Rattle.clk_machine.specs.Tickets.{tickets_of}
 use Rattle.clk_machine.specs.declared.script.Word.{Word}
+use Rattle.clk_words.specs.Held.{place_of}
+use Rattle.clk_words.specs.Histories.{opens_at}
+use Rattle.clk_words.specs.Kinds.{cpu_of}
+use Rattle.clk_words.specs.Knowing.{IsReadingKind}
 use Rattle.clk_lawful.specs.ScriptEvents.{Calls, events_at, AreEventsOf}
 use Rattle.clk_lawful.specs.declared.event.Event.{Event}
 use Rattle.clk_lawful.specs.declared.event.EventKind.{EventKind}

@@ -2,14 +2,18 @@
 use Rattle.std.specs.Prelude.{◌≡◌, ◌≢◌, ℕ, ◌<◌, true, false, ℤ, List, [], ◌∷◌, ◌++◌}
 use Rattle.clk_base.specs.Blocks.{Rises}
 use Rattle.clk_ticket.specs.Time.{Draws, share_of}
+use Rattle.clk_machine.specs.Records.{AreRecords}
+use Rattle.clk_machine.specs.declared.reading.RawReading.{RawReading}
+use Rattle.clk_machine.specs.declared.reading.Published.{Published}
 use Rattle.clk_record.specs.declared.step.Step.{Step}
 use Rattle.clk_record.specs.declared.step.Why.{Why}
 use Rattle.clk_record.specs.declared.step.Why.TheVariants.{Raise}
 use Rattle.clk_record.specs.declared.step.Why.TheVariants as why
 use Rattle.clk_words.specs.Histories.{is_lift}
-use Rattle.clk_machine.specs.Records.{AreRecords}
-use Rattle.clk_machine.specs.declared.reading.RawReading.{RawReading}
-use Rattle.clk_machine.specs.declared.reading.Published.{Published}
+use Rattle.clk_lawful.specs.declared.event.Event.{Event}
+use Rattle.clk_lawful.specs.declared.event.EventKind.{EventKind}
+use Rattle.clk_lawful.specs.declared.event.EventKind.TheVariants.{Local, Couple, Stamp, Update, Pause}
+use Rattle.clk_lawful.specs.declared.event.EventKind.TheVariants as kind
 use Rattle.clk_latch.specs.Calls.{AreDrawn, DrawsTicket, Updates}
 use Rattle.clk_local.specs.Context.{Site, Known, BeginsAtBase, MayStamp, looked_as}
 use Rattle.clk_local.specs.Shows.{ShowsStable, ShowsRaised, ShowsStamp}
@@ -18,10 +22,6 @@ use Rattle.clk_local.specs.declared.events.Reading.TheVariants.{Stable, PerCpu}
 use Rattle.clk_local.specs.declared.events.TickEvent.{TickEvent}
 use Rattle.clk_local.specs.declared.events.TickEvent.TheVariants.{Nothing, Ticked}
 use Rattle.clk_remote.specs.Shows.{ShowsCoupling}
-use Rattle.clk_lawful.specs.declared.event.Event.{Event}
-use Rattle.clk_lawful.specs.declared.event.EventKind.{EventKind}
-use Rattle.clk_lawful.specs.declared.event.EventKind.TheVariants.{Local, Couple, Stamp, Update, Pause}
-use Rattle.clk_lawful.specs.declared.event.EventKind.TheVariants as kind
 
 -- where the thread makes its call of this number
 abbrev pub at_call : Site → ℕ → Site

@@ -7,13 +7,13 @@ ghost use Rattle.clk_machine.specs.Limits.{most_tickets};
 ghost use Rattle.clk_machine.specs.Plan.{plan_of, cpu_count};
 ghost use Rattle.clk_machine.specs.Records.{record_zero, above_base};
 ghost use Rattle.clk_machine.specs.Short.{IsWellFormed};
-ghost use Rattle.clk_latch.specs.Calls.{IsRecordZero};
+ghost use Rattle.clk_record.specs.declared.mode.Mode.TheVariants.{PerCpu};
 ghost use Rattle.clk_words.specs.Held.{place_of};
 ghost use Rattle.clk_words.specs.Histories.{opens_at};
 ghost use Rattle.clk_words.specs.Kinds.{cpu_of};
 ghost use Rattle.clk_words.specs.Knowing.{HasFoundPerCpu, IsReadingKind, MaySplit, MayDemote};
 ghost use Rattle.clk_words.specs.Views.{is_percpu, first_view, giver_view, given_view};
-ghost use Rattle.clk_record.specs.declared.mode.Mode.TheVariants.{PerCpu};
+ghost use Rattle.clk_latch.specs.Calls.{IsRecordZero};
 ghost use Rattle.clk_local.specs.Context.{BeginsAtBase, IsUsable, MayStamp};
 
 use crate::Ctx;

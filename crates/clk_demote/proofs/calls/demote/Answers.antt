@@ -1,13 +1,14 @@
 use Rattle.std.proofs.Common.{◌≡◌, ◌++◌, ap, sym, ◌∙◌, subst, rules, to_z-of_z, FitsSigned, w64}
+use Rattle.clk_machine.specs.Plan.{cpu_count}
+use Rattle.clk_machine.specs.declared.reading.RawReading.{RawReading}
+use Rattle.clk_record.proofs.Shifting.{shift_by_drift}
 use Rattle.clk_words.specs.declared.opening.Start.{Start}
 use Rattle.clk_words.specs.declared.view.View.{View}
 use Rattle.clk_words.specs.Bounds.{IsGtod, IsRaw}
 use Rattle.clk_words.specs.Held.{Place}
 use Rattle.clk_words.specs.Histories.{opens_at}
-use Rattle.clk_machine.specs.Plan.{cpu_count}
-use Rattle.clk_machine.specs.declared.reading.RawReading.{RawReading}
 use Rattle.clk_demote.specs.Lifts.{lifts_of}
-use Rattle.clk_demote.proofs.Shifting.{shift_by_drift, lift_value}
+use Rattle.clk_demote.proofs.Shifting.{lift_value}
 use Rattle.clk_demote.proofs.Demoting.{still_demotion, shows_demotion}
 use Rattle.clk_demote.proofs.calls.demote.Goals as goal
 

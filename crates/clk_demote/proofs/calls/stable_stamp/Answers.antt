@@ -1,10 +1,10 @@
 use Rattle.std.proofs.Common.{◌≡◌, ◌<◌, refl, ap, sym, ◌∙◌, subst, rules, length, map, to_z-of_z, FitsSigned, w64}
+use Rattle.clk_record.specs.Demotions.{offset_by}
 use Rattle.clk_words.specs.declared.opening.Start.{Start}
 use Rattle.clk_words.specs.declared.view.View.{View}
 use Rattle.clk_words.specs.Bounds.{IsOffset}
 use Rattle.clk_words.specs.Held.{Place}
 use Rattle.clk_words.specs.Histories.{opens_at}
-use Rattle.clk_record.specs.Demotions.{offset_by}
 use Rattle.clk_demote.proofs.ContextKept.{seats_count, offset_here, still_usable}
 use Rattle.clk_demote.proofs.calls.stable_stamp.Goals as goal
 

@@ -1,4 +1,4 @@
-use Rattle.clk_demote.proofs.Shifting.{shift_by_drift}
+use Rattle.clk_record.proofs.Shifting.{shift_by_drift}
 use Rattle.clk_demote.proofs.laws.demotions_shift_by_drift.Goals as goal
 
 pub returns : goal.returns

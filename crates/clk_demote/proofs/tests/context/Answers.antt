@@ -4,12 +4,12 @@ use Rattle.std.proofs.lemmas.List.Elements.{All-cons}
 use Rattle.clk_num.specs.Range.{IsNear, IsFrom0To}
 use Rattle.clk_num.specs.Wrapping.{wrap}
 use Rattle.clk_num.proofs.Wraps.{wrapped}
-use Rattle.clk_words.specs.declared.opening.Start.{Start}
-use Rattle.clk_words.specs.Held.{Held, place_of}
-use Rattle.clk_words.specs.Histories.{opens_at, has_lift}
 use Rattle.clk_machine.specs.Plan.{Plan}
 use Rattle.clk_machine.specs.Records.{base_of, above_base}
 use Rattle.clk_record.specs.Demotions.{offset_by}
+use Rattle.clk_words.specs.declared.opening.Start.{Start}
+use Rattle.clk_words.specs.Held.{Held, place_of}
+use Rattle.clk_words.specs.Histories.{opens_at, has_lift}
 use Rattle.clk_demote.proofs.tests.context.Goals as goal
 
 -- the words open 42 ns above the base

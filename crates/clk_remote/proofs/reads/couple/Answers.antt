@@ -1,10 +1,10 @@
 use Rattle.std.proofs.Common.{◌≡◌, rules, refl, sym, ap, ◌∙◌, subst, to_z-of_z, FitsSigned, w64}
+use Rattle.clk_record.specs.LowerWord.{lower_word}
 use Rattle.clk_words.specs.Knowing.{IsTrusted}
 use Rattle.clk_words.specs.Told.{Loads}
 use Rattle.clk_words.proofs.Loading.{kept_both, kept_makes}
 use Rattle.clk_local.proofs.ContextKept.{role_kept, still_usable}
 use Rattle.clk_remote.specs.Coupling.{coupling}
-use Rattle.clk_record.specs.LowerWord.{lower_word}
 use Rattle.clk_remote.proofs.Coupling.{kept_loads, stamp_coupled, trusted_coupling, is_step, shows_coupling}
 use Rattle.clk_remote.proofs.reads.couple.Goals as goal
 

@@ -1,7 +1,7 @@
 use Rattle.std.proofs.Common.{◌≡◌, ◌-◌, true, ℤ, List, length, get_or, ap, ◌∙◌, subst, rules, FitsSigned, w64, to_z-of_z}
-use Rattle.clk_lawful.specs.Demoted.{boot_stamp}
 use Rattle.clk_record.specs.Demotions.{IsDemotion}
 use Rattle.clk_record.specs.declared.stable.StableStamp.{StableStamp}
+use Rattle.clk_lawful.specs.Demoted.{boot_stamp}
 use Rattle.clk_threads.specs.Booting.{gtod_offset_of, sched_offset_of}
 use Rattle.clk_threads.proofs.BootDemoting.{last_boot, is_demoted}
 use Rattle.clk_threads.proofs.Lasts.{some_stamps}

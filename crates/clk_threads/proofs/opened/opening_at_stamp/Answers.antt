@@ -1,7 +1,7 @@
 use Rattle.std.proofs.Common.{ℤ, pos, None, ◌-◌, List, length, get_or, ap, ◌∙◌, rules, FitsSigned, w64, to_z, of_z, to_z-of_z}
 use Rattle.clk_record.specs.declared.mode.Mode.{Mode}
-use Rattle.clk_lawful.specs.Stamps.{Pair, no_pair}
 use Rattle.clk_record.specs.declared.stable.StableStamp.{StableStamp}
+use Rattle.clk_lawful.specs.Stamps.{Pair, no_pair}
 use Rattle.clk_threads.specs.Booting.{gtod_offset_of, opening_of}
 use Rattle.clk_threads.proofs.Lasts.{last_is, some_stamps}
 use Rattle.clk_threads.proofs.opened.opening_at_stamp.Goals as goal

@@ -3,10 +3,10 @@ use mir.Syntax.{named}
 use denote.Param.{param}
 use denote.Param.Send.{sendable, shr_send}
 use denote.Ref.{ShrRef}
+use Rattle.clk_base.proofs.Sent.{captures_send}
 use Rattle.clk_num.specs.contracts.list.List
 use Rattle.clk_worker.specs.contracts.shared.Shared
 use Rattle.clk_worker.specs.contracts.worker.Worker
-use Rattle.clk_warp.proofs.Sent.{captures_send}
 use Rattle.clk_threads.proofs.Sent.{workers_sent, shared_shared}
 use Rattle.clk_threads.proofs.workers.run_beside.Goals as goal
 

@@ -1,5 +1,5 @@
-use Rattle.clk_threads.proofs.Bringing.{booted_for}
 use Rattle.clk_tool.proofs.tool.run_booted.Goals as goal
+use Rattle.clk_tool.proofs.Bringing.{booted_for}
 
 pub write_run-requires-clause-booted : goal.write_run-requires-clause-booted
 write_run-requires-clause-booted g c κs within =

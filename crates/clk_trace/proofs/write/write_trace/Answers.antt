@@ -1,6 +1,6 @@
 use Rattle.std.proofs.Common.{append-nil}
-use Rattle.clk_trace.specs.Taking.{Takes, progress_of}
 use Rattle.clk_lawful.specs.TraceText.{text}
+use Rattle.clk_trace.specs.Taking.{Takes, progress_of}
 use Rattle.clk_trace.proofs.Taking.{takes_more, takes_all}
 use Rattle.clk_trace.proofs.WholeText.{text_is}
 use Rattle.clk_trace.proofs.write.write_trace.Goals as goal

@@ -3,12 +3,15 @@ use mir.Syntax.{named}
 use denote.Param.{param}
 use denote.Param.Send.{sendable, shr_send}
 use denote.Ref.{ShrRef}
-use Rattle.clk_machine.specs.contracts.machine.Machine
+use Rattle.clk_base.proofs.Sent.{captures_send}
 use Rattle.clk_ticket.specs.contracts.table.TicketTable
+use Rattle.clk_ticket.proofs.Sent.{tickets_shared}
+use Rattle.clk_machine.specs.contracts.machine.Machine
+use Rattle.clk_machine.proofs.Sent.{machine_shared}
 use Rattle.clk_warp.specs.contracts.lock.TurnLock as Lock
 use Rattle.clk_warp.specs.contracts.seat.TurnSeat as Seat
 use Rattle.clk_warp.proofs.Pairing.{finished}
-use Rattle.clk_warp.proofs.Sent.{seat_sent, lock_shared, tickets_shared, machine_shared, captures_send}
+use Rattle.clk_warp.proofs.Sent.{seat_sent, lock_shared}
 use Rattle.clk_warp.proofs.pair.run_both.Goals as goal
 
 -- rt, the lock, the seat, the tickets, the machine, the gate

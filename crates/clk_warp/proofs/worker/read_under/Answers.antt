@@ -1,8 +1,8 @@
 use Rattle.std.proofs.Common.{◌≡◌, ◌+◌, List, length, ◌∙◌, ap, sym, arith}
 use Rattle.std.proofs.lemmas.List.{length_push}
+use Rattle.clk_record.specs.Sides.{of_side}
 use Rattle.clk_warp.specs.declared.section.Section.{Section}
 use Rattle.clk_warp.specs.declared.section.Section.TheVariants.{Read}
-use Rattle.clk_record.specs.Sides.{of_side}
 use Rattle.clk_warp.specs.Run.{Run, side_ended}
 use Rattle.clk_warp.specs.Working.{readings_of}
 use Rattle.clk_warp.proofs.Working.{finds, changed_by, leaves, own_readings, own_ended, one_more}

@@ -2,8 +2,8 @@ use Rattle.std.proofs.Common.{◌≡◌, ◌<◌, List, ap, sym, subst, arith}
 use Rattle.clk_ticket.specs.Time.{share_of}
 use Rattle.clk_words.specs.Held.{Place}
 use Rattle.clk_words.specs.declared.opening.Start.{Start}
-use Rattle.clk_local.specs.Context.{site_of}
 use Rattle.clk_lawful.specs.declared.event.EventKind.{EventKind}
+use Rattle.clk_local.specs.Context.{site_of}
 use Rattle.clk_worker.specs.Calling.{known, kinds_of_remote}
 use Rattle.clk_worker.proofs.Making.{serves_after, owns_after, stands_after, calls_other}
 use Rattle.clk_worker.proofs.Showing.{showed_remote}

@@ -1,7 +1,7 @@
 use Rattle.std.proofs.Common.{[], ◌∷◌, refl, arith, ap, ◌∙◌}
 use Rattle.clk_ticket.specs.Time.{Time, share_of}
-use Rattle.clk_latch.specs.Epoch.{Epoch}
 use Rattle.clk_lawful.specs.declared.event.EventKind.TheVariants.{Update}
+use Rattle.clk_latch.specs.Epoch.{Epoch}
 use Rattle.clk_local.specs.Context.{site_of}
 use Rattle.clk_worker.specs.Calling.{known}
 use Rattle.clk_worker.proofs.Showing.{no_look}

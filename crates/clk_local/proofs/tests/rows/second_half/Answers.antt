@@ -1,7 +1,7 @@
 use Rattle.std.proofs.Common.{sym, subst, rules, to_z-of_z, FitsSigned, w64}
-use Rattle.clk_words.specs.declared.opening.Start.{Start}
 use Rattle.clk_record.specs.declared.step.Why.{Why}
 use Rattle.clk_record.specs.declared.step.Why.TheVariants.{Raise}
+use Rattle.clk_words.specs.declared.opening.Start.{Start}
 use Rattle.clk_words.specs.Bounds.{IsRaw}
 use Rattle.clk_words.specs.Histories.{opens_at}
 use Rattle.clk_words.specs.Knowing.{IsTrusted}

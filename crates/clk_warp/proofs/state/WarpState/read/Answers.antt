@@ -4,8 +4,8 @@ use Rattle.atomic_table.specs.Seated.{TableId}
 use Rattle.clk_ticket.specs.Time.{Time}
 use Rattle.clk_machine.specs.Time.{counter_at}
 use Rattle.clk_record.specs.declared.warp.WarpReading.{WarpReading}
-use Rattle.clk_warp.specs.declared.section.Section.TheVariants.{Read}
 use Rattle.clk_record.specs.WarpLimits.{cpu_of, side_adjust}
+use Rattle.clk_warp.specs.declared.section.Section.TheVariants.{Read}
 use Rattle.clk_warp.specs.Run.{Run, limits_at, both_here, side_ended, change, IsReading}
 use Rattle.clk_warp.specs.Stated.{run_of, IsKept}
 use Rattle.clk_warp.proofs.Stating.{few_readings, kept_read, kept_behind, ticket_left, reading_is}

@@ -1,8 +1,8 @@
 use Rattle.std.proofs.Common.{◌^◌, sym, ◌∙◌, ap, subst}
 use Rattle.clk_machine.specs.Plan.{Plan}
-use Rattle.clk_watch.specs.Brackets.{Brackets}
 use Rattle.clk_record.specs.Fold.{at_first}
-use Rattle.clk_watch.specs.Watching.{Watching}
+use Rattle.clk_record.specs.Watching.{Watching}
+use Rattle.clk_watch.specs.Brackets.{Brackets}
 use Rattle.clk_watch.proofs.Calling.{brackets_keep, room_still}
 use Rattle.clk_watch.proofs.watch.Watch.bracket.Goals as goal
 

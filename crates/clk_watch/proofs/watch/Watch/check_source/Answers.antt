@@ -1,7 +1,8 @@
 use Rattle.std.proofs.Common.{◌^◌, length, sym, ◌∙◌, ap, subst, refl}
 use Rattle.clk_machine.specs.Plan.{Plan}
 use Rattle.clk_record.specs.Fold.{at_first, watch_after, AreVisits}
-use Rattle.clk_watch.specs.Watching.{Watching, Visits}
+use Rattle.clk_record.specs.Watching.{Watching}
+use Rattle.clk_watch.specs.Visits.{Visits}
 use Rattle.clk_watch.proofs.Calling.{sources_all, room_still, more_visits, checks}
 use Rattle.clk_watch.proofs.watch.Watch.check_source.Goals as goal
 

@@ -1,5 +1,5 @@
 use Rattle.std.proofs.Common.{◌≡◌, rules}
-use Rattle.clk_record.specs.ChecksAsked.{checks_asked}
+use Rattle.clk_record.specs.Watching.{checks_asked}
 use Rattle.clk_watcher.proofs.Making.{belongs_on, runs_on}
 use Rattle.clk_watcher.proofs.Ending.{ran_all}
 use Rattle.clk_watcher.proofs.watcher.Watcher.run.Goals as goal

@@ -1,7 +1,7 @@
 use Rattle.std.proofs.Common.{◌+◌, sym, ap, ◌∙◌, subst, refl, rules, to_z-of_z, FitsSigned, w64}
 use Rattle.atomic_table.specs.Table.{Me}
-use Rattle.clk_words.specs.declared.opening.Start.{Start}
 use Rattle.clk_record.specs.declared.step.Step.{Step}
+use Rattle.clk_words.specs.declared.opening.Start.{Start}
 use Rattle.clk_words.specs.declared.view.View.{View}
 use Rattle.clk_words.specs.Parts.{gtod_of}
 use Rattle.clk_words.specs.Knowing.{MayDemote, HoldsInRange}

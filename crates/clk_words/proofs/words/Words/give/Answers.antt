@@ -1,7 +1,7 @@
 use Rattle.std.proofs.Common.{sym, ap, subst, arith}
 use Rattle.atomic_table.specs.Table.{Me}
-use Rattle.clk_words.specs.declared.kind.SeatKind.{SeatKind}
 use Rattle.clk_record.specs.declared.step.Step.{Step}
+use Rattle.clk_words.specs.declared.kind.SeatKind.{SeatKind}
 use Rattle.clk_words.specs.declared.view.View.{View}
 use Rattle.clk_words.specs.Knowing.{MaySplit}
 use Rattle.clk_words.specs.Held.{Held}

@@ -1,8 +1,8 @@
 use Rattle.std.proofs.Common.{sym, subst, ap, ◌∙◌, rules, to_z-of_z, FitsSigned, w64}
 use Rattle.atomic_table.specs.Table.{Me}
 use Rattle.clk_num.proofs.Heights.{sum_is}
-use Rattle.clk_words.specs.declared.kind.SeatKind.TheVariants.{Reader}
 use Rattle.clk_record.specs.declared.step.Step.{Step}
+use Rattle.clk_words.specs.declared.kind.SeatKind.TheVariants.{Reader}
 use Rattle.clk_words.specs.declared.view.View.{View}
 use Rattle.clk_words.specs.Histories.{opens_at}
 use Rattle.clk_words.specs.WordSeats.{IsSeated}

@@ -1,9 +1,9 @@
 use Rattle.std.proofs.Common.{◌≡◌, sym, ap, ◌∙◌, subst, refl, rules, arith, to_z-of_z, FitsSigned, w64}
-use Rattle.clk_words.specs.declared.opening.Start.{Start}
 use Rattle.clk_record.specs.declared.step.Step.{Step}
 use Rattle.clk_record.specs.declared.step.Why.{Why}
-use Rattle.clk_words.specs.declared.view.View.{View}
 use Rattle.clk_record.specs.Targets.{target}
+use Rattle.clk_words.specs.declared.opening.Start.{Start}
+use Rattle.clk_words.specs.declared.view.View.{View}
 use Rattle.clk_words.specs.Heights.{IsClockWord}
 use Rattle.clk_words.specs.Knowing.{IsTrusted}
 use Rattle.clk_words.specs.Told.{Raises}

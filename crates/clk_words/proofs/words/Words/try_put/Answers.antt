@@ -3,10 +3,10 @@ use mathlib.Core.Option.{some}
 use Rattle.atomic_table.specs.Table.{step}
 use Rattle.atomic_table.specs.Table.{Step as Turn}
 use Rattle.clk_num.specs.Wrapping.{raise}
-use Rattle.clk_words.specs.declared.opening.Start.{Start}
 use Rattle.clk_record.specs.declared.step.Step.{Step}
-use Rattle.clk_words.specs.declared.view.Name.TheVariants.{Clock}
 use Rattle.clk_record.specs.Targets.{target}
+use Rattle.clk_words.specs.declared.opening.Start.{Start}
+use Rattle.clk_words.specs.declared.view.Name.TheVariants.{Clock}
 use Rattle.clk_words.specs.Knowing.{HasLoaded}
 use Rattle.clk_words.specs.Held.{Held, Place}
 use Rattle.clk_words.proofs.WordsSteps.{tries}

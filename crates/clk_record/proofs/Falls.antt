@@ -1,4 +1,4 @@
--- What falls mean.
+-- The laws of falls.
 use Rattle.std.proofs.Common.{◌≡◌, ◌≢◌, ℕ, ◌+◌, ◌-◌, ◌<◌, ◌≤◌, Bool, true, false, cond, not, ◌&&◌, ltb, List, [], ◌∷◌, ◌++◌, fold, max, refl, sym, ap, subst, arith}
 use Rattle.std.specs.List.{All}
 use Rattle.std.proofs.lemmas.Bool.{le-ltb}
@@ -8,7 +8,7 @@ use Rattle.clk_record.specs.declared.warp.Side.TheVariants.{Source, Target}
 use Rattle.clk_record.specs.declared.warp.WarpReading.{WarpReading}
 use Rattle.clk_record.specs.Sides.{is_same, turns_of}
 use Rattle.clk_record.specs.Falls.{Limits, Fall, each_after, is_last, turn_before, is_fall, changes, has_fall, through_last}
-use Rattle.clk_warp.specs.Laws.{NeverFall, NoFallWhereNoneFalls, GreatestIsMost, SeenIsAtMostGreatest, HasChange, ChangesWhereSidesChange}
+use Rattle.clk_record.specs.FallLaws.{NeverFall, NoFallWhereNoneFalls, GreatestIsMost, SeenIsAtMostGreatest, HasChange, ChangesWhereSidesChange}
 
 -- ---- no fall where none falls
 
@@ -16,8 +16,8 @@ last_below : (n at : ℕ) (rs : List WarpReading) → at ≤ n → All (λ r. r.
 last_below n at [] low all = low
 last_below n at (r ∷ rs) low all = last_below n r.tsc rs (All-head (λ s. s.tsc ≤ n) r rs all) (All-tail (λ s. s.tsc ≤ n) r rs all)
 
-before_below : (r : WarpReading) (front : List WarpReading) → All (λ s. s.tsc ≤ r.tsc) front → turn_before front ≤ r.tsc
-before_below r front all = last_below r.tsc 0 (turns_of front) (omega arith) (All-filter (λ s. not s.start) (λ s. s.tsc ≤ r.tsc) front all)
+pub before_below : (n : ℕ) (front : List WarpReading) → All (λ s. s.tsc ≤ n) front → turn_before front ≤ n
+before_below n front all = last_below n 0 (turns_of front) (omega arith) (All-filter (λ s. not s.start) (λ s. s.tsc ≤ n) front all)
 
 and_none : (a b c : Bool) → c ≡ false → (a && (b && c)) ≡ false
 and_none true true c e = e
@@ -28,7 +28,7 @@ steady_after : (l : Limits) (front rs : List WarpReading) → All (λ s. All (λ
     → each_after {A = Fall} (λ front r. cond (is_fall l front r) ((record { side = r.side; size = turn_before front - r.tsc }) ∷ []) []) front rs ≡ []
 steady_after l front [] all never = refl
 steady_after l front (r ∷ rs) all never =
-    let low = before_below r front (All-weaker (λ s. All (λ t. s.tsc ≤ t.tsc) (r ∷ rs)) (λ s. s.tsc ≤ r.tsc) (λ s h. All-head (λ t. s.tsc ≤ t.tsc) r rs h) front all) in
+    let low = before_below r.tsc front (All-weaker (λ s. All (λ t. s.tsc ≤ t.tsc) (r ∷ rs)) (λ s. s.tsc ≤ r.tsc) (λ s h. All-head (λ t. s.tsc ≤ t.tsc) r rs h) front all) in
     let here : is_fall l front r ≡ false = and_none (not r.start) (not (is_last l front r)) (ltb r.tsc (turn_before front)) (le-ltb r.tsc (turn_before front) low) in
     let rest = All-weaker (λ s. All (λ t. s.tsc ≤ t.tsc) (r ∷ rs)) (λ s. All (λ t. s.tsc ≤ t.tsc) rs) (λ s h. All-tail (λ t. s.tsc ≤ t.tsc) r rs h) front all in
     rw here (steady_after l (front ++ r ∷ []) rs (All-push (λ s. All (λ t. s.tsc ≤ t.tsc) rs) front r rest never.0) never.1)

@@ -3,9 +3,8 @@ use Rattle.std.proofs.Common.{◌≡◌, ℕ, ◌+◌, ◌*◌, ◌^◌, ◌<◌
 use Rattle.std.specs.List.{All}
 use Rattle.std.proofs.lemmas.Int.{ints}
 use Rattle.std.proofs.Math.Nat.{mod-le}
-use Rattle.clk_ticket.specs.Sizes.{most_tickets}
 use Rattle.clk_machine.specs.Plan.{Plan, CpuPlan, count_of, cpu_count}
-use Rattle.clk_machine.specs.Limits.{IsRateInKhz, AreJumps, IsWithinLimits}
+use Rattle.clk_machine.specs.Limits.{most_tickets, IsRateInKhz, AreJumps, IsWithinLimits}
 use Rattle.clk_machine.specs.Time.{time_at, count_at, cpu_at, counter_at}
 use Rattle.clk_machine.proofs.Halving.{jumped_near}
 use Rattle.clk_machine.proofs.Bounds.{time_below, cycles_few, cpu_in_range, count_of_cpu}

@@ -1,4 +1,4 @@
--- What falls mean.
+-- Laws of falls: what the counts of a run mean. A function of `clk_warp` carries them.
 use Rattle.std.specs.Prelude.{◌≡◌, ◌≢◌, ◌↔◌, ◌<◌, ◌≤◌, List, [], ◌∷◌, ◌++◌}
 use Rattle.std.specs.List.{All}
 use Rattle.clk_record.specs.declared.warp.Side.{Side}

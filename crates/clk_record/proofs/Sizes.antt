@@ -1,21 +1,13 @@
 -- No fall of a run is greater than its counters.
-use Rattle.std.proofs.Common.{ℕ, ◌-◌, ◌≤◌, Bool, true, false, cond, not, List, [], ◌∷◌, ◌++◌, fold, max, arith}
+use Rattle.std.proofs.Common.{ℕ, ◌-◌, ◌≤◌, Bool, true, false, cond, List, [], ◌∷◌, ◌++◌, fold, max, arith}
 use Rattle.std.specs.List.{All}
-use Rattle.std.proofs.lemmas.List.Elements.{All-nil, All-cons, All-head, All-tail, All-push, All-append, All-filter}
+use Rattle.std.proofs.lemmas.List.Elements.{All-nil, All-cons, All-head, All-tail, All-push, All-append}
 use Rattle.clk_record.specs.declared.warp.Side.TheVariants.{Target}
 use Rattle.clk_record.specs.declared.warp.WarpReading.{WarpReading}
 use Rattle.clk_record.specs.declared.warp.WarpRun.{WarpRun}
-use Rattle.clk_record.specs.Sides.{turns_of}
 use Rattle.clk_record.specs.Falls.{Limits, Fall, each_after, turn_before, is_fall, falls, greatest}
 use Rattle.clk_record.specs.Warps.{IsWarpRun}
-use Rattle.clk_warp.proofs.Meaning.{seen_is_at_most_greatest}
-
-last_below : (n at : ℕ) (rs : List WarpReading) → at ≤ n → All (λ r. r.tsc ≤ n) rs → fold (λ (last : ℕ) (r : WarpReading). r.tsc) at rs ≤ n
-last_below n at [] low all = low
-last_below n at (r ∷ rs) low all = last_below n r.tsc rs (All-head (λ s. s.tsc ≤ n) r rs all) (All-tail (λ s. s.tsc ≤ n) r rs all)
-
-before_below : (n : ℕ) (front : List WarpReading) → All (λ s. s.tsc ≤ n) front → turn_before front ≤ n
-before_below n front all = last_below n 0 (turns_of front) (omega arith) (All-filter (λ s. not s.start) (λ s. s.tsc ≤ n) front all)
+use Rattle.clk_record.proofs.Falls.{before_below, seen_is_at_most_greatest}
 
 one_small : (b : Bool) (f : Fall) (n : ℕ) → f.size ≤ n → All (λ (g : Fall). g.size ≤ n) (cond b (f ∷ []) [])
 one_small true f n low = All-cons (λ (g : Fall). g.size ≤ n) f [] low (All-nil (λ (g : Fall). g.size ≤ n))

@@ -1,5 +1,5 @@
--- What contracts see of a `Watch`, and what a visit does to it.
-use Rattle.std.specs.Prelude.{◌≡◌, ℕ, ◌+◌, ◌*◌, ◌≤◌, Bool, ℤ, List, [], ◌∷◌, ◌++◌, length}
+-- What a visit to a source does to a watch.
+use Rattle.std.specs.Prelude.{◌≡◌, ℕ, ◌+◌, ◌≤◌, ℤ, List, [], ◌∷◌, ◌++◌, length}
 use Rattle.clk_num.specs.Listed.{Listed}
 use Rattle.clk_ticket.specs.Time.{Time}
 use Rattle.clk_machine.specs.Plan.{Plan}
@@ -7,32 +7,9 @@ use Rattle.clk_record.specs.declared.attempt.Attempt.{Attempt}
 use Rattle.clk_record.specs.declared.visit.SourceRecord.{SourceRecord}
 use Rattle.clk_record.specs.declared.watched.Watched.{Watched}
 use Rattle.clk_record.specs.Attempts.{retries_of}
+use Rattle.clk_record.specs.Fold.{after_record, IsVisit}
+use Rattle.clk_record.specs.Watching.{Watching, kept_of}
 use Rattle.clk_watch.specs.Brackets.{Tries}
-use Rattle.clk_record.specs.Fold.{at_first, after_record, watch_after, IsVisit}
-use Rattle.clk_record.specs.ChecksAsked.{checks_asked}
-
--- the machine that is watched, whether its TSC source was lost at boot, and the attempts and records so far
-pub record Watching : Type 0 where
-  pub machine : Plan
-  pub tsc_unstable : Bool
-  pub attempts : Listed Attempt
-  pub records : Listed SourceRecord
-
--- what is kept of the sources
-abbrev pub kept_of : Watching → List Watched
-kept_of w = watch_after w.attempts.items (at_first w.machine w.tsc_unstable) w.records.items
-
-abbrev pub most_visits : Plan → ℕ
-most_visits m = checks_asked m.watchdog * length m.source
-
--- a watch that has room for all of them, and for all of their attempts
-abbrev pub started : Plan → Bool → Watching
-started m lost = record {
-  machine = m;
-  tsc_unstable = lost;
-  attempts = record { items = []; room = most_visits m * (retries_of m + 1) };
-  records = record { items = []; room = most_visits m };
-}
 
 -- a visit to source s, on this CPU: the attempts that were made and appended, and what they call for
 pub record Visits (m : Plan) (cpu : ℕ) (adjust : ℤ) (s : ℕ) (ws : List Watched) (before after : Listed Attempt) (t u : Time) (r : SourceRecord) (left : List Watched) : Type 0 where

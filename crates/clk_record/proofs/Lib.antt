@@ -1,0 +1,6 @@
+pub mod Falls
+pub mod Counters
+pub mod Sizes
+pub mod Calls
+pub mod Near
+pub mod Shifting
