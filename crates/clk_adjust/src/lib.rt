@@ -7,8 +7,8 @@
 //! they show, and both sides run again. Else the test has failed, the counters cannot be trusted, and no CPU after it
 //! is tested.
 //!
-//! - `specs/BroughtUp.antt` says what a bring-up finds, over its finished lists: which runs a CPU has, by which
-//!   adjustments they are made, and what the last one decides. It cites the warp run and the verdict of `clk_warp`.
+//! - `clk_record` says what a bring-up finds, over its finished lists: which runs a CPU has, by which adjustments they
+//!   are made, and what the last one decides. That is `BroughtUp` of its `specs/`, over `Warps` and `Verdicts` there.
 //! - [`bring_up`] tests the CPUs in order, and [`bring_up_but`] passes one over. Both wait for the two sides of each
 //!   run. `specs/Tickets.antt` says which tickets they draw: those of the readings, in order, and no others.
 //! - An adjustment in all is within 2^47 cycles of 0, by the machine's limits.

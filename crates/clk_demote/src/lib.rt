@@ -8,9 +8,10 @@
 //!
 //! It promises that the opening is the stable value at the demotion's own raw reading less the drift, by which the raw
 //! clock went ahead of monotonic time since the last stable stamp ([`demotions_shift_by_drift`]). So the clock goes on
-//! as if monotonic time had been read since then. Each call tells what it drew, read, stored and lifted, in terms of
-//! what the watchdog's seats had before it and after it (`specs/Shows.antt`). No call takes memory, and over a latch
-//! that does not wait no call waits.
+//! as if monotonic time had been read since then. Which demotion that is, of its numbers alone, says `Demotions` of
+//! `clk_record`'s `specs/`. Each call tells what it drew, read, stored and lifted, in terms of what the watchdog's
+//! seats had before it and after it (`specs/Shows.antt`). No call takes memory, and over a latch that does not wait no
+//! call waits.
 //!
 //! It does not promise that no reading falls at a demotion: one may, by the drift where that is positive.
 //!

@@ -1,7 +1,7 @@
 //! What every lawful trace promises, in the clock's own words.
 //!
-//! `clk_trace` says when a trace is lawful: field by field, as a reader checks it. Here stand laws that follow, each on
-//! a function that does nothing. They speak of any number of CPUs and readers, in either start, with or without a
+//! `clk_lawful` says when a trace is lawful: field by field, as a reader checks it. Here stand laws that follow, each
+//! on a function that does nothing. They speak of any number of CPUs and readers, in either start, with or without a
 //! bring-up and a watchdog.
 //!
 //! - [`a_demotion_loses_the_drift`]: the end of the stable mode shifts the clock by exactly the drift that it shows.

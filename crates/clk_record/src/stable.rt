@@ -1,4 +1,4 @@
-//! What the calls answer.
+//! The stamps of a stable clock, and the end of the stable mode.
 use clk_machine::RawReading;
 
 /// A stamp of the boot, or of the watchdog while the clock is stable: the ticket and value of monotonic time in ns, 0

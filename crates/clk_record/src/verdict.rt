@@ -1,4 +1,5 @@
-//! What a verdict can be.
+//! The verdict on a warp run.
+
 /// What comes after a warp run. After the end of `check_tsc_sync_target` in Linux 6.1's `arch/x86/kernel/tsc_sync.c`.
 #[derive(Clone, Copy, PartialEq, Eq, Debug)]
 pub enum Verdict {

@@ -1,4 +1,4 @@
-//! What a check tells of a source.
+//! A visit to a source in a check: what it found, and the record of it.
 ghost use Rattle.std.specs.Prelude.{◌≡◌};
 ghost use Rattle.clk_record.specs.Fold.{ends_check, is_good, is_lost};
 

@@ -1,10 +1,12 @@
-//! The trace of a run: what it holds, when it is lawful, and its text.
+//! How a trace comes about: the histories of its words, and its text.
 //!
-//! A [`Trace`] holds every reading, stamp and pause of a run with its ticket, and the history of each clock word.
-//! `specs/` says when a trace is lawful for a machine and what its text is, line by line; the text fixes all that
-//! lawfulness reads. [`histories`] finds the history of each word from the events of all threads, and [`write_trace`]
-//! writes exactly the trace's text into any [`Sink`]; neither takes memory. Any other text of lines goes to a sink by
-//! an [`Out`], as that of a trace does.
+//! What a [`Trace`] is, when it is lawful and what its text is stands in `clk_lawful`, which this crate passes on.
+//! [`histories`] finds the history of each clock word from the events of all threads, sorted as `SortedHistory` of
+//! `clk_lawful`'s `specs/` says. [`write_trace`] writes exactly the trace's text into any [`Sink`], line by line, or
+//! its beginning where the sink fails. Any other text of lines goes to a sink by an [`Out`], as that of a trace does.
+//! How a text goes through a buffer to a sink says `specs/Taking.antt`.
+//!
+//! Neither takes memory. Neither asks whether a trace is lawful: lists that fit each other are all that they want.
 #![tactic(auto)]
 
 mod gather;

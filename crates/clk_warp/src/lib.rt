@@ -4,9 +4,10 @@
 //! side, the source CPU and the target CPU, has a start reading and then turns; every eighth turn it looks whether its
 //! time or its turns are over. A turn below the turn before it, of whichever side, is a fall.
 //!
-//! - `specs/Falls.antt` says which readings of a run are falls and where a side ends, over the whole list of readings.
-//!   The program keeps counters turn by turn, [`WarpCounts`], and each [`WarpCounts::add`] is proved to keep them those
-//!   of the list. [`falls_are_counted`] carries what the definitions mean.
+//! - `clk_record` has a finished run, [`WarpRun`], and says over the whole list of its readings which of them are
+//!   falls, where a side ends and what the verdict is: `Falls`, `Warps` and `Verdicts` of its `specs/`. The program
+//!   keeps counters turn by turn, [`WarpCounts`], and each [`WarpCounts::add`] is proved to keep them those of the
+//!   list. [`falls_are_counted`] carries what the definitions mean.
 //! - [`WarpState`] is what stands under the lock: the readings, their counts, and the seat that draws their tickets.
 //!   One section under the lock is one reading, the arrival of a side, or nothing: `specs/Run.antt` says what each
 //!   makes of the state.

@@ -6,9 +6,9 @@
 //! [`Outcome`]. It is demoted where they differ by more than its margin and the reference's, or where no bracket of it
 //! is short enough.
 //!
-//! It promises that each outcome is exactly what the recorded attempts call for, by `specs/Brackets.antt` and
-//! `specs/Fold.antt`, and that each attempt shows the counters at the tickets that were drawn for it. No call but
-//! [`Watch::new`] takes memory, and none waits.
+//! It promises that each outcome is exactly what the recorded attempts call for, by `Attempts` and `Fold` of
+//! `clk_record`'s `specs/`, and that each attempt shows the counters at the tickets that were drawn for it. What a call
+//! does to a watch and its tickets stands in `specs/` here. No call but [`Watch::new`] takes memory, and none waits.
 //!
 //! A check is the caller's loop, on any CPU: [`Watch::check_source`] for each source in order, up to a record that says
 //! [`Outcome::Skip`], after which the caller makes no further call in this check. The fold of the records over their

@@ -20,7 +20,9 @@
 //! the stamps and the offset are kept in two's complement.
 //!
 //! How it works: the words are a table whose rule (`specs/Kept.antt`) ties them to what all seats know, and each call
-//! is one atomic step that keeps it. A contract sees a seat as a `Held`, whose `View` says what the seat knows.
+//! is one atomic step that keeps it. A contract sees a seat as a `Held`, whose `View` says what the seat knows. A
+//! [`Step`] and its target stand in `clk_record` (`specs/Targets.antt`, and `LowerWord.antt` for two words), so that a
+//! history is read without the words that made it.
 #![tactic(auto)]
 
 mod closed;
