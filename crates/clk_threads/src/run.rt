@@ -3,6 +3,7 @@
 ghost use Rattle.std.specs.Prelude.{◌≡◌, ◌≤◌, All, None, Some, IsSome, [], length, map};
 ghost use Rattle.clk_base.specs.Walk.{EachFrom};
 ghost use Rattle.clk_machine.specs.Plan.{threads_of};
+ghost use Rattle.clk_machine.specs.Limits.{IsWithinLimits};
 ghost use Rattle.clk_lawful.specs.Checks.{listed};
 ghost use Rattle.clk_lawful.specs.LawfulTrace.{IsLawful};
 ghost use Rattle.clk_lawful.specs.WritableWatch.{MayWriteWatch};
@@ -13,10 +14,12 @@ ghost use Rattle.clk_threads.specs.Parts.{with_watcher, CameAt, WatchCame};
 
 use crate::parts::{RunParts, close_run, open_with_room};
 use crate::prepared::Prepared;
+use crate::watchdog::checks;
 use crate::workers::run_all;
 use clk_lawful::Trace;
-use clk_machine::Gate;
+use clk_machine::{Gate, Machine};
 use clk_num::List;
+use clk_pace::{Pace, Paced};
 use clk_watcher::Watcher;
 use clk_words::Closed;
 use clk_worker::Worker;
@@ -43,13 +46,27 @@ pub fn run_cpus<R: Threads + Sync, G: Gate + Sync>(rt: &R, prepared: Prepared, g
     ensures closed { ShowsHistory result.closed.history result.trace }
     ensures writable { MayWriteWatch (length result.trace.histories.items) result.trace.watch }
 {
+    let pace = pace_of(&prepared.machine);
+    let paced = Paced { pace: &pace, gate };
     let (mut parts, room) = open_with_room(prepared);
     let workers = take_all(&mut parts, room);
     let watcher = parts.take_watcher();
-    let (workers, watcher) = run_all(rt, parts.shared(), workers, watcher, gate);
+    let (workers, watcher) = run_all(rt, parts.shared(), workers, watcher, &paced);
     back_all(&mut parts, workers);
     back_watch(&mut parts, watcher);
     close_run(parts)
+}
+
+/// The pace of the threads of a machine: each makes the words of its script, and the watchdog its checks.
+fn pace_of(machine: &Machine) -> Pace
+    requires { IsWithinLimits machine.now }
+{
+    let mut pace = Pace::new();
+    for thread in 0..machine.threads() {
+        pace.expect(thread, machine.words(thread));
+    }
+    pace.expect(machine.threads(), checks(machine) as u32);
+    pace
 }
 
 /// Takes all workers, in order, into this list.

@@ -5,6 +5,7 @@ use crate::answered::{Row, answer_to, are_answered, bytes_of, is_one, is_so, joi
 use crate::gates::{Barrier, Meeting};
 use crate::run::read_run;
 use crate::sure::SureSource;
+use crate::thread_tests::TRIES;
 use clk_adjust::bring_up_but;
 use clk_machine::{Gate, OpenGate};
 use clk_record::{BroughtUp, UpOutcome};
@@ -310,6 +311,42 @@ fn two_sides_meet(rt: HostRuntime) -> Result<(), AllocError> {
     let told = brief(rt.alloc(), trace.as_str())?;
     is_so(&rt, told.as_str(), &MET);
     assert!(rt; have_met(rt.alloc(), &gate, trace.as_str())?);
+    Ok(())
+}
+
+// Each side ends at its turn 72, the first one past 64 at which it looks whether to end.
+const TAKING_TURNS: [&str; 5] = [
+    TWO_CPUS,
+    "1000000",
+    PER_CPU,
+    "adjust = true\ntimeout_us = 1000000\nturns = 64\n",
+    TOGETHER,
+];
+
+// How often a turn is that of another side than the turn before it.
+fn changes_of_side(trace: &str) -> u32 {
+    let mut changes: u32 = 0;
+    let mut before = None;
+    for line in trace.lines() {
+        if let [b'r', b' ', side, ..] = line.as_bytes() {
+            if before.is_some_and(|it| it != *side) {
+                changes = changes.saturating_add(1);
+            }
+            before = Some(*side);
+        }
+    }
+    changes
+}
+
+#[test]
+fn sides_take_turns(rt: HostRuntime) -> Result<(), AllocError> {
+    let mut most = 0;
+    for _ in 0..TRIES {
+        let trace = answer_to(&rt, rt.alloc(), &TAKING_TURNS, &OpenGate)?;
+        assert!(rt; trace.ends_with("history 1 0\nend 151\n"));
+        most = most.max(changes_of_side(trace.as_str()));
+    }
+    assert!(rt; most >= 32, "{most} changes of side at most");
     Ok(())
 }
 

@@ -98,6 +98,28 @@ fn two_cpus_meet(rt: HostRuntime) -> Result<(), AllocError> {
     meet(&rt, rt.alloc(), 2, &[TWO_CPUS, scripts], DONE)
 }
 
+// Two CPUs of 200 words each. Had one of them made all of its own first, its last reading would be at ticket 202.
+const SIDE_BY_SIDE: [&str; 3] = [
+    TWO_CPUS,
+    "[[cpu]]\nrepeat = 200\nscript = [\"local\"]\n",
+    "[[cpu]]\nrepeat = 200\nscript = [\"local\"]\n",
+];
+
+// How often a run is made on a machine that may be busy, for its threads to take turns in one of them.
+pub(crate) const TRIES: u32 = 20;
+
+#[test]
+fn scripts_run_side_by_side(rt: HostRuntime) -> Result<(), AllocError> {
+    let mut met = false;
+    for _ in 0..TRIES {
+        let trace = answer_to(&rt, rt.alloc(), &SIDE_BY_SIDE, &OpenGate)?;
+        assert!(rt; trace.ends_with("\nend 403\n"));
+        met = met || !trace.contains("\n199 local 202 ");
+    }
+    assert!(rt; met, "one script after the other");
+    Ok(())
+}
+
 // A machine file of one CPU at 1 GHz, up to the table of the CPU.
 const ONE_CPU: &str =
     "version = 1\ncpus = 1\nstep = 10\ntick = 1000000\nnominal_khz = 1000000\nstable = false\n[reference]\nkhz = 1000000\n";

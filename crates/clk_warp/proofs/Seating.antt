@@ -33,6 +33,14 @@ waiting_of a b ticket out drawn = record {
   drawn = ap (λ (me : MeOf). me.0.ticket) drawn.is;
 }
 
+-- it has drawn still, where looks have told it nothing
+pub still_drawn : (a b c : Place) (ticket : ℕ) → HasDrawn a ticket b → c.table_id ≡ b.table_id → c.id ≡ b.id → c.me ≡ b.me → HasDrawn a ticket c
+still_drawn a b c ticket drawn table number me = record {
+  table = table ∙ drawn.table;
+  id_is = number ∙ drawn.id_is;
+  is = me ∙ drawn.is;
+}
+
 -- the seat once it is called
 pub record IsCalledSeat (c : Place) : Type 0 where
   pub side : Side

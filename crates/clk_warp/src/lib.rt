@@ -25,6 +25,7 @@ mod judge;
 mod laws;
 mod lock;
 mod pair;
+mod patience;
 mod progress;
 mod seat;
 mod section;

@@ -6,6 +6,7 @@ ghost use Rattle.clk_warp.specs.Turns.{fresh, Enters, IsChanged, Leaves, Closes}
 ghost use Rattle.clk_warp.specs.LockRule.{knows_first};
 ghost use Rattle.clk_warp.specs.Locking.{IsWaiting, IsOutside, HasDrawn, HasBeenCalled};
 
+use crate::patience::{Patience, rest_together};
 use crate::seat::TurnSeat;
 use crate::state::WarpState;
 use crate::view::{Both, Call, Draw, Give, Look, Raise, Sides, Take, TakingTurns, View};
@@ -18,8 +19,6 @@ use std::hint::spin_loop;
 use std::marker::Model;
 use std::snapshot::Snapshot;
 use std::sync::Wait;
-use std::thread::{Parker, yield_now};
-use std::time::Duration;
 
 // Where the words are, and the slot.
 const NEXT: usize = 0;
@@ -27,26 +26,6 @@ const NEXT: usize = 0;
 const SERVING: usize = 1;
 
 const STATE: usize = 0;
-
-/// How often a side looks for a free lock before it draws all the same. So a side makes several turns in a row, which
-/// costs less than a change of sides at each turn, and has not made all of its own before the other side's thread has
-/// begun, so that a short run finds a warp more often.
-const PATIENCE: u32 = 512;
-
-/// The lock ticket from which on a side that finds the lock held takes a nap. A run that is so long has compared the
-/// counters both ways many times; from here on a side goes on alone for some hundred turns, which keeps one processor
-/// busy in place of two, and no word of the lock moves between them.
-const FIRST_NAP: u64 = 1_024;
-
-/// How often a side looks before it takes a nap: longer than the other one's section takes.
-const LOOKS_BEFORE_A_NAP: u32 = 64;
-
-/// How long a nap is, in microseconds. Linux adds its timer slack, 50 us where nothing else is set.
-const NAP_US: u64 = 20;
-
-/// How often a side looks whether it is served before it lets another thread run: two sides on one core have to go on.
-/// Letting go is a call of the system, so a side looks for longer than the other one's section takes.
-const LOOKS: u32 = 1_000;
 
 /// A ticket lock over the state of a warp run, which two sides enter in turn. It serves them in the order in which they
 /// drew their lock tickets, as the spinlock of Linux's `check_tsc_warp` does.
@@ -97,16 +76,32 @@ impl TurnLock {
         }
     }
 
-    /// Draws the next lock ticket, waits until it is served, and takes the state. The seat is outside. Where all lock
-    /// tickets are drawn, 2^64 - 1 of them, it does not return.
+    /// Draws the next lock ticket at once, waits until it is served, and takes the state. The seat is outside. Where all
+    /// lock tickets are drawn, 2^64 - 1 of them, it does not return.
     #[inline(always)]
     pub fn enter<R: Wait>(&self, rt: &R, seat: &mut TurnSeat) -> WarpState
         requires own { seat.old.lock ≡ self.now }
         requires outside { seat.old.inside ≡ false }
         ensures { Enters seat.old result seat.new }
     {
+        self.enter_by(rt, seat, &mut Patience::new())
+    }
+
+    /// The same, with the patience of the side, by which it may wait until the other one has drawn too.
+    #[inline(always)]
+    pub(crate) fn enter_by<R: Wait>(
+        &self,
+        rt: &R,
+        seat: &mut TurnSeat,
+        patience: &mut Patience,
+    ) -> WarpState
+        requires own { seat.old.lock ≡ self.now }
+        requires outside { seat.old.inside ≡ false }
+        ensures { Enters seat.old result seat.new }
+    {
         let ticket = self.draw(rt, &mut seat.seat);
-        self.wait(rt, &mut seat.seat, ticket);
+        self.meet(rt, &mut seat.seat, patience.take_together());
+        self.wait(rt, &mut seat.seat, ticket, patience);
         self.table.shared.load::<Take>(&mut seat.seat, SERVING);
         let state = self.table.shared.exchange(&mut seat.seat, STATE, None);
         seat.ticket = Some(ticket);
@@ -114,22 +109,15 @@ impl TurnLock {
         state.unwrap()
     }
 
-    // Waits a while for a free lock, and tries the exchange again until one is done. At the last number it draws
-    // nothing, so no count wraps.
+    // Tries the exchange again until one is done. At the last number it draws nothing, so no count wraps.
     #[inline(always)]
     fn draw<R: Wait>(&self, rt: &R, seat: &mut Seat<Option<WarpState>, View>) -> u64
         requires own { seat.old.table_id ≡ self.now.table }
         requires outside { IsOutside seat.old }
         ensures { HasDrawn seat.old result seat.new }
     {
-        let mut looks: u32 = 0;
         for _ in rt.forever() {
             let next = self.table.shared.load::<Look>(seat, NEXT);
-            let serving = self.table.shared.load::<Look>(seat, SERVING);
-            if next != serving && looks < PATIENCE {
-                looks = rest(rt, next, looks);
-                continue;
-            }
             if next != u64::MAX
                 && self
                     .table
@@ -144,8 +132,15 @@ impl TurnLock {
         unreachable!()
     }
 
+    // Waits until its ticket is served.
     #[inline(always)]
-    fn wait<R: Wait>(&self, rt: &R, seat: &mut Seat<Option<WarpState>, View>, ticket: u64)
+    fn wait<R: Wait>(
+        &self,
+        rt: &R,
+        seat: &mut Seat<Option<WarpState>, View>,
+        ticket: u64,
+        patience: &mut Patience,
+    )
         requires own { seat.old.table_id ≡ self.now.table }
         requires waiting { IsWaiting seat.old ticket }
         ensures { HasBeenCalled seat.old seat.new }
@@ -153,17 +148,29 @@ impl TurnLock {
         let mut looks: u32 = 0;
         for _ in rt.forever() {
             if self.table.shared.load::<Call>(seat, SERVING) == ticket {
+                patience.learn(looks);
                 return;
             }
-            if looks < LOOKS {
-                looks += 1;
-                spin_loop();
-            } else {
-                looks = 0;
-                yield_now();
-            }
+            looks = looks.saturating_add(1);
+            patience.rest(looks);
         }
         unreachable!()
+    }
+
+    // Looks so often at most whether both sides have drawn. From then on each draws behind the other one, so their turns
+    // alternate. The other one may have no thread of its own, and come later.
+    fn meet<R: Wait>(&self, rt: &R, seat: &mut Seat<Option<WarpState>, View>, most: u32)
+        requires own { seat.old.table_id ≡ self.now.table }
+        ensures table { seat.new.table_id ≡ seat.old.table_id }
+        ensures number { seat.new.id ≡ seat.old.id }
+        ensures me { seat.new.me ≡ seat.old.me }
+    {
+        for looks in 0..most {
+            if self.table.shared.load::<Look>(seat, NEXT) > 1 {
+                return;
+            }
+            rest_together(rt, looks);
+        }
     }
 
     /// Gives the state back, changed by one section since `enter` gave it, and hands the lock on. The seat is inside,
@@ -199,16 +206,6 @@ impl TurnLock {
         closed.free();
         state.unwrap()
     }
-}
-
-// Rests after a look at a lock that is held, and answers how many looks that makes: a nap is worth all of them.
-fn rest<R: Wait>(rt: &R, next: u64, looks: u32) -> u32 {
-    if next < FIRST_NAP || looks < LOOKS_BEFORE_A_NAP {
-        spin_loop();
-        return looks.saturating_add(1);
-    }
-    Parker::new().park_timeout(rt, Duration::from_micros(NAP_US));
-    PATIENCE
 }
 
 // The two seats of a new lock.

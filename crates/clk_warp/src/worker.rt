@@ -7,6 +7,7 @@ ghost use Rattle.clk_warp.specs.Run.{limits_at};
 ghost use Rattle.clk_warp.specs.Working.{readings_of, IsReady, Works};
 
 use crate::lock::TurnLock;
+use crate::patience::Patience;
 use crate::seat::TurnSeat;
 use clk_machine::{Gate, Machine};
 use clk_record::Side;
@@ -75,7 +76,8 @@ pub(crate) fn run_side<R: Wait, G: Gate>(
     requires machine { machine.now ≡ lock.now.first.machine }
     ensures { Works lock.now side seat result.0.readings result.1 }
 {
-    let mut turned = read_under(rt, side, lock, &mut seat, tickets, machine);
+    let mut patience = Patience::together();
+    let mut turned = read_under(rt, side, lock, &mut seat, &mut patience, tickets, machine);
     for _ in rt.forever() {
         if turned.ended {
             let end = SideEnd {
@@ -84,7 +86,7 @@ pub(crate) fn run_side<R: Wait, G: Gate>(
             return (end, seat);
         }
         gate.pass(thread, turned.readings - 1, turned.tsc as i64);
-        turned = read_under(rt, side, lock, &mut seat, tickets, machine);
+        turned = read_under(rt, side, lock, &mut seat, &mut patience, tickets, machine);
     }
     unreachable!()
 }
@@ -95,6 +97,7 @@ fn read_under<R: Wait>(
     side: Side,
     lock: &TurnLock,
     seat: &mut TurnSeat,
+    patience: &mut Patience,
     tickets: &TicketTable,
     machine: &Machine,
 ) -> Turned
@@ -111,7 +114,7 @@ fn read_under<R: Wait>(
     ensures ended { result.ended ≡ is_ended (limits_at lock.now.first) side (readings_of seat.new.own) }
     ensures small { result.tsc < 2 ^ 50 }
 {
-    let mut state = lock.enter(rt, seat);
+    let mut state = lock.enter_by(rt, seat, patience);
     let reading = state.read(side, tickets, machine);
     let turned = Turned {
         tsc: reading.tsc,

@@ -10,7 +10,7 @@ use Rattle.clk_warp.proofs.worker.read_under.Goals as goal
 
 pub read-reading-requires : goal.read-reading-requires
 read-reading-requires g c =
-    let f = finds c.args.lock.now c.args.side c.args.seat.now c.enter-state.new.seat c.enter-state.result c.requires.ready c.enter-state.ensures c.requires.going in
+    let f = finds c.args.lock.now c.args.side c.args.seat.now c.enter_by-state.new.seat c.enter_by-state.result c.requires.ready c.enter_by-state.ensures c.requires.going in
     record {
       own = c.requires.tickets ∙ sym f.tickets;
       machine = c.requires.machine ∙ sym f.machine;
@@ -21,10 +21,10 @@ read-reading-requires g c =
 
 pub leave-requires : goal.leave-requires
 leave-requires g c = record {
-  own = c.enter-state.ensures.lock_is ∙ c.requires.ready.lock_is;
-  inside = c.enter-state.ensures.inside;
-  changed = changed_by c.args.lock.now c.args.side c.args.seat.now c.enter-state.new.seat c.enter-state.result c.read-reading.new.self c.read-reading.result
-      c.requires.ready c.enter-state.ensures c.read-reading.ensures.reading c.read-reading.ensures.side c.read-reading.ensures.state;
+  own = c.enter_by-state.ensures.lock_is ∙ c.requires.ready.lock_is;
+  inside = c.enter_by-state.ensures.inside;
+  changed = changed_by c.args.lock.now c.args.side c.args.seat.now c.enter_by-state.new.seat c.enter_by-state.result c.read-reading.new.self c.read-reading.result
+      c.requires.ready c.enter_by-state.ensures c.read-reading.ensures.reading c.read-reading.ensures.side c.read-reading.ensures.state;
 }
 
 pub returns : goal.returns
@@ -34,8 +34,8 @@ returns g c =
     let before = c.args.seat.now in
     let final = c.leave.new.seat in
     let r = c.read-reading.result in
-    let left = leaves lock side before c.enter-state.new.seat final c.enter-state.result c.read-reading.new.self r
-    c.requires.ready c.enter-state.ensures c.read-reading.ensures.side c.read-reading.ensures.state c.leave.ensures in
+    let left = leaves lock side before c.enter_by-state.new.seat final c.enter_by-state.result c.read-reading.new.self r
+    c.requires.ready c.enter_by-state.ensures c.read-reading.ensures.side c.read-reading.ensures.state c.leave.ensures in
     let readings : c.made.result ≡ length (of_side side (readings_of final.own)) =
     c.made.ensures.count ∙ ap (λ (s : Run). length (of_side side s.readings)) left.state_is
     ∙ ap length (own_readings side lock.first final.known final.own c.requires.ready.first_readings left.ready.mine) in

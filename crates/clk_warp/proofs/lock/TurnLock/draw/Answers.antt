@@ -6,12 +6,9 @@ use Rattle.clk_warp.proofs.lock.TurnLock.draw.Goals as goal
 pub load-next-requires : goal.load-next-requires
 load-next-requires g c = (search rules, search rules, looks _ _ _ _ _)
 
-pub load-serving-requires : goal.load-serving-requires
-load-serving-requires g c = (search rules, search rules, looks _ _ _ _ _)
-
 pub compare_exchange-requires : goal.compare_exchange-requires
 compare_exchange-requires g c =
-    let me = c.load-serving.ensures.2 ∙ (c.load-next.ensures.2 ∙ c.loop.invariant.me_is) in
+    let me = c.load-next.ensures.2 ∙ c.loop.invariant.me_is in
     let out = c.requires.outside in (
       search rules,
       search rules,
